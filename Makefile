@@ -1,0 +1,5 @@
+.PHONY: test
+
+# The gate.
+test:
+	bash .ci/run

@@ -1,0 +1,466 @@
+-- Cases worked by hand from document 01's rules on small timetables of their own, as rows of one table under one claim. Each row
+-- has what the definitions of the operations give and the numbers that were worked out. Assumes nothing.
+use mathlib.Core.Path.{_≡_, refl}
+use mathlib.Core.Bool.{Bool, true, cond}
+use mathlib.Core.List.{List, [], _∷_, _++_}
+use Prim.Native.Nat.{ℕ, suc, _*_}
+use lib.IntN.{ℤ, pos, negsuc}
+use lib.ListN.{take, replicate}
+use Rattle.timetable.specs.Answers.{Answer, accepted, refused, firstBelow}
+use Rattle.timetable.specs.File.{connections, transferTime, trip, from, to, scheduledDeparture, scheduledArrival, staysAboard}
+use Rattle.timetable.specs.Check.{headerVerdict, stopVerdict, wrongStops, wrongTrip, wrongTimes, wrongJoin, connectionVerdict, fileVerdict}
+use Rattle.model.specs.Least.{none, leastBelow, tab}
+use Rattle.model.specs.Notices.{noticesLength, flat, cut, areaOf, rowsOf, stands, entered, struck, standsRight, unusedRight, rowsFrom, rowsVerdict}
+use Rattle.model.specs.Times.{primaryDelay, expectedDeparture, expectedArrival, networkOf}
+use Rattle.model.specs.Graph.{firstOn, waiting, transfer, firstDeparture, times, graphOf}
+use Rattle.model.specs.Journeys.{canBeFirst, canFollow}
+use Rattle.model.specs.Predecessors.{choose, rounds, predecessors, follow, arriving, lastTo, nowhere, journeyIn}
+use Rattle.model.specs.Margin.{marginOf}
+use Rattle.model.specs.Operations.{graphLength, same, lengthsVerdict, contentsVerdict, built, posted, withdrawn, Enquiry, enquired, margined}
+use Rattle.model.specs.Register.{Call, posting, withdrawal}
+use Rattle.model.specs.Runs.{Run, ran, runOf}
+use Rattle.model.specs.Example.{fileOf, inBytes}
+use Rattle.model.proofs.Instances.{Row, right, shown}
+
+-- a timetable built on areas that hold sevens and have one number too many, with these calls worked
+unfoldable pub run : List ℕ → List Call → Run
+run f calls = runOf f (replicate (suc noticesLength) 7) (replicate (suc (graphLength f)) 7) calls
+
+-- the times of every connection after these calls
+unfoldable pub timesIn : List ℕ → List Call → List ℕ
+timesIn f calls = take (2 * connections f) (run f calls .graph)
+
+-- answers as numbers: 0 and the notice number, or the refusal's number and place
+unfoldable pub given : List (Answer ℕ) → List ℕ
+given [] = []
+given (accepted n ∷ rest) = 0 ∷ n ∷ given rest
+given (refused n p ∷ rest) = n ∷ p ∷ given rest
+
+-- an enquiry in whole: its answer, the predecessors in an area of nines, the journey in one of eights, each one number longer
+-- than there are connections
+unfoldable pub whole : Enquiry → List ℕ
+whole e = shown (e .answer) ++ e .work ++ e .journey
+
+unfoldable pub asked : List ℕ → List Call → ℕ → ℕ → ℕ → List ℕ
+asked f calls a b t =
+    let r = run f calls in
+    whole (enquired f (r .notices) (r .graph) (replicate (suc (connections f)) 9) (replicate (suc (connections f)) 8) a b t)
+
+-- a margin as numbers: 0, 1 for a minus, and its size; or the refusal's number and place
+unfoldable pub spare : Answer ℤ → List ℕ
+spare (accepted (pos n)) = 0 ∷ 0 ∷ n ∷ []
+spare (accepted (negsuc n)) = 0 ∷ 1 ∷ suc n ∷ []
+spare (refused n p) = n ∷ p ∷ []
+
+unfoldable pub marginIn : List ℕ → List Call → ℕ → ℕ → List ℕ
+marginIn f calls c d = let r = run f calls in spare (margined f (r .notices) (r .graph) c d)
+
+-- whether each of these tests passes
+unfoldable pub tests : List Bool → List ℕ
+tests [] = []
+tests (b ∷ bs) = cond b 1 0 ∷ tests bs
+
+-- departures in one minute
+unfoldable pub sameMinute : List ℕ
+unfolding inBytes
+sameMinute =
+    fileOf
+    (1 ∷ 2 ∷ 3 ∷
+    0 ∷ 0 ∷
+    0 ∷ 0 ∷ 1 ∷ 100 ∷ 120 ∷
+    1 ∷ 0 ∷ 1 ∷ 100 ∷ 110 ∷
+    2 ∷ 1 ∷ 0 ∷ 110 ∷ 130 ∷
+    [])
+
+-- later departures that arrive earlier
+unfoldable pub overtaking : List ℕ
+unfolding inBytes
+overtaking =
+    fileOf
+    (1 ∷ 2 ∷ 3 ∷
+    3 ∷ 4 ∷
+    0 ∷ 0 ∷ 1 ∷ 200 ∷ 260 ∷
+    1 ∷ 0 ∷ 1 ∷ 210 ∷ 240 ∷
+    2 ∷ 0 ∷ 1 ∷ 215 ∷ 240 ∷
+    [])
+
+-- one trip that calls at stop 1 twice; the minimum transfer time there is given
+unfoldable pub loop : ℕ → List ℕ
+unfolding inBytes
+loop transfer =
+    fileOf
+    (1 ∷ 4 ∷ 4 ∷
+    2 ∷ transfer ∷ 2 ∷ 2 ∷
+    0 ∷ 0 ∷ 1 ∷ 300 ∷ 310 ∷
+    0 ∷ 1 ∷ 2 ∷ 311 ∷ 315 ∷
+    0 ∷ 2 ∷ 1 ∷ 316 ∷ 319 ∷
+    0 ∷ 1 ∷ 3 ∷ 320 ∷ 330 ∷
+    [])
+
+-- a departure in the minute of an arrival; the minimum transfer time is given
+unfoldable pub meeting : ℕ → List ℕ
+unfolding inBytes
+meeting transfer =
+    fileOf
+    (1 ∷ 3 ∷ 2 ∷
+    0 ∷ transfer ∷ 0 ∷
+    0 ∷ 0 ∷ 1 ∷ 50 ∷ 60 ∷
+    1 ∷ 1 ∷ 2 ∷ 60 ∷ 70 ∷
+    [])
+
+-- from stop 0 to stop 1 and back, and two connections further
+unfoldable pub back : List ℕ
+unfolding inBytes
+back =
+    fileOf
+    (1 ∷ 3 ∷ 4 ∷
+    5 ∷ 5 ∷ 5 ∷
+    0 ∷ 0 ∷ 1 ∷ 100 ∷ 110 ∷
+    1 ∷ 1 ∷ 0 ∷ 115 ∷ 125 ∷
+    2 ∷ 0 ∷ 2 ∷ 129 ∷ 140 ∷
+    3 ∷ 0 ∷ 2 ∷ 130 ∷ 150 ∷
+    [])
+
+-- a change that is missed by three minutes
+unfoldable pub narrow : List ℕ
+unfolding inBytes
+narrow =
+    fileOf
+    (1 ∷ 3 ∷ 2 ∷
+    0 ∷ 5 ∷ 0 ∷
+    0 ∷ 0 ∷ 1 ∷ 100 ∷ 110 ∷
+    1 ∷ 1 ∷ 2 ∷ 112 ∷ 120 ∷
+    [])
+
+-- two departures of stop 0, and a connection to it
+unfoldable pub board : List ℕ
+unfolding inBytes
+board =
+    fileOf
+    (1 ∷ 2 ∷ 3 ∷
+    0 ∷ 5 ∷
+    0 ∷ 0 ∷ 1 ∷ 100 ∷ 110 ∷
+    1 ∷ 0 ∷ 1 ∷ 105 ∷ 115 ∷
+    2 ∷ 1 ∷ 0 ∷ 80 ∷ 95 ∷
+    [])
+
+-- a trip with stop times of 5 and 2 minutes, and another that starts where it ends
+unfoldable pub trips : List ℕ
+unfolding inBytes
+trips =
+    fileOf
+    (1 ∷ 3 ∷ 4 ∷
+    2 ∷ 2 ∷ 2 ∷
+    0 ∷ 0 ∷ 1 ∷ 100 ∷ 110 ∷
+    0 ∷ 1 ∷ 2 ∷ 115 ∷ 125 ∷
+    0 ∷ 2 ∷ 0 ∷ 127 ∷ 137 ∷
+    1 ∷ 0 ∷ 1 ∷ 140 ∷ 150 ∷
+    [])
+
+-- two ways to the same change
+unfoldable pub choice : List ℕ
+unfolding inBytes
+choice =
+    fileOf
+    (1 ∷ 3 ∷ 3 ∷
+    0 ∷ 5 ∷ 0 ∷
+    0 ∷ 0 ∷ 1 ∷ 100 ∷ 130 ∷
+    1 ∷ 0 ∷ 1 ∷ 100 ∷ 110 ∷
+    2 ∷ 1 ∷ 2 ∷ 140 ∷ 150 ∷
+    [])
+
+-- the first and the last minutes of a timetable
+unfoldable pub ends : List ℕ
+unfolding inBytes
+ends =
+    fileOf
+    (1 ∷ 2 ∷ 2 ∷
+    0 ∷ 60 ∷
+    0 ∷ 1 ∷ 0 ∷ 0 ∷ 1 ∷
+    1 ∷ 0 ∷ 1 ∷ 4318 ∷ 4319 ∷
+    [])
+
+-- one stop, no connection
+unfoldable pub empty : List ℕ
+unfolding inBytes
+empty = fileOf (1 ∷ 1 ∷ 0 ∷ 4 ∷ [])
+
+unfoldable pub cases : List Row
+cases =
+    -- 0 and 1 leave in the same minute: the lower first; 1 arrives in the minute in which 2 leaves, and needs 0 minutes
+    (
+      run sameMinute [] .graph,
+      100 ∷ 120 ∷ 100 ∷ 110 ∷ 110 ∷ 130 ∷
+          1 ∷ none ∷ none ∷
+          none ∷ 2 ∷ none ∷
+          0 ∷ 2 ∷ 7 ∷ [],
+    ) ∷
+    -- the one that arrives earlier wins; 2 can follow 1 alone
+    (
+      asked sameMinute [] 0 1 100,
+      0 ∷ 110 ∷ 1 ∷
+          0 ∷ 1 ∷ 1 ∷ 9 ∷
+          1 ∷ 8 ∷ 8 ∷ 8 ∷ [],
+    ) ∷
+    -- 1 overtakes 0; 2 arrives when 1 does and has the higher number
+    (
+      asked overtaking [] 0 1 195,
+      0 ∷ 240 ∷ 1 ∷
+          0 ∷ 1 ∷ 2 ∷ 9 ∷
+          1 ∷ 8 ∷ 8 ∷ 8 ∷ [],
+    ) ∷
+    -- 0 and 1 have left
+    (
+      asked overtaking [] 0 1 211,
+      0 ∷ 240 ∷ 1 ∷
+          none ∷ none ∷ 2 ∷ 9 ∷
+          2 ∷ 8 ∷ 8 ∷ 8 ∷ [],
+    ) ∷
+    -- 310 and 10 minutes is 320, when 3 leaves: a change from 0 to 3 of the same trip, and 0 is lower than 2
+    (
+      asked (loop 10) [] 0 3 300,
+      0 ∷ 330 ∷ 2 ∷
+          0 ∷ 0 ∷ 1 ∷ 0 ∷ 9 ∷
+          0 ∷ 3 ∷ 8 ∷ 8 ∷ 8 ∷ [],
+    ) ∷
+    -- with 11 minutes only aboard
+    (
+      asked (loop 11) [] 0 3 300,
+      0 ∷ 330 ∷ 4 ∷
+          0 ∷ 0 ∷ 1 ∷ 2 ∷ 9 ∷
+          0 ∷ 1 ∷ 2 ∷ 3 ∷ 8 ∷ [],
+    ) ∷
+    -- its margins, also between neighbours of the trip: 320 - 310 - 10, 320 - 310 - 11, 311 - 310 - 10
+    (marginIn (loop 10) [] 0 3, 0 ∷ 0 ∷ 0 ∷ []) ∷
+    (marginIn (loop 11) [] 0 3, 0 ∷ 1 ∷ 1 ∷ []) ∷
+    (marginIn (loop 10) [] 0 1, 0 ∷ 1 ∷ 9 ∷ []) ∷
+    -- 0 minutes: arrival and departure at 60 are a change just made
+    (
+      asked (meeting 0) [] 0 2 50,
+      0 ∷ 70 ∷ 2 ∷
+          0 ∷ 0 ∷ 9 ∷
+          0 ∷ 1 ∷ 8 ∷ [],
+    ) ∷
+    (marginIn (meeting 0) [] 0 1, 0 ∷ 0 ∷ 0 ∷ []) ∷
+    -- 1 minute: missed by one; refusal 30 fills the predecessors
+    (
+      asked (meeting 1) [] 0 2 50,
+      30 ∷ 0 ∷
+          0 ∷ none ∷ 9 ∷
+          8 ∷ 8 ∷ 8 ∷ [],
+    ) ∷
+    (marginIn (meeting 1) [] 0 1, 0 ∷ 1 ∷ 1 ∷ []) ∷
+    -- 1 is back at stop 0 at 125 and needs its 5 minutes: 3 and not 2
+    (
+      run back [] .graph,
+      100 ∷ 110 ∷ 115 ∷ 125 ∷ 129 ∷ 140 ∷ 130 ∷ 150 ∷
+          2 ∷ none ∷ 3 ∷ none ∷
+          1 ∷ 3 ∷ none ∷ none ∷
+          0 ∷ 1 ∷ none ∷ 7 ∷ [],
+    ) ∷
+    -- so 3 can follow 1, 2 cannot; and 2 can be first at 129, not at 130
+    (
+      tests
+          (canFollow (networkOf back []) 1 2 ∷
+          canFollow (networkOf back []) 1 3 ∷
+          canBeFirst (networkOf back []) 0 129 2 ∷
+          canBeFirst (networkOf back []) 0 130 2 ∷
+          []),
+      0 ∷ 1 ∷ 1 ∷ 0 ∷ [],
+    ) ∷
+    -- no minutes at the start
+    (
+      asked back [] 0 2 129,
+      0 ∷ 140 ∷ 1 ∷
+          none ∷ none ∷ 2 ∷ 3 ∷ 9 ∷
+          2 ∷ 8 ∷ 8 ∷ 8 ∷ 8 ∷ [],
+    ) ∷
+    -- 1 can stand before 3, but 3 can be first and is its own predecessor
+    (
+      asked back [] 0 2 100,
+      0 ∷ 140 ∷ 1 ∷
+          0 ∷ 0 ∷ 2 ∷ 3 ∷ 9 ∷
+          2 ∷ 8 ∷ 8 ∷ 8 ∷ 8 ∷ [],
+    ) ∷
+    -- from stop 1 it cannot, and 1 stands before it
+    (
+      asked back [] 1 2 115,
+      0 ∷ 150 ∷ 2 ∷
+          none ∷ 1 ∷ none ∷ 1 ∷ 9 ∷
+          1 ∷ 3 ∷ 8 ∷ 8 ∷ 8 ∷ [],
+    ) ∷
+    -- equal stops: the empty journey, and the predecessors all the same
+    (
+      asked back [] 0 0 100,
+      0 ∷ 100 ∷ 0 ∷
+          0 ∷ 0 ∷ 2 ∷ 3 ∷ 9 ∷
+          8 ∷ 8 ∷ 8 ∷ 8 ∷ 8 ∷ [],
+    ) ∷
+    -- also at stop 1
+    (
+      asked back [] 1 1 100,
+      0 ∷ 100 ∷ 0 ∷
+          none ∷ 1 ∷ none ∷ 1 ∷ 9 ∷
+          8 ∷ 8 ∷ 8 ∷ 8 ∷ 8 ∷ [],
+    ) ∷
+    -- the last minute of an enquiry
+    (
+      asked back [] 2 2 5759,
+      0 ∷ 5759 ∷ 0 ∷
+          none ∷ none ∷ none ∷ none ∷ 9 ∷
+          8 ∷ 8 ∷ 8 ∷ 8 ∷ 8 ∷ [],
+    ) ∷
+    -- one more is refused and changes nothing
+    (
+      asked back [] 2 2 5760,
+      16 ∷ 0 ∷
+          9 ∷ 9 ∷ 9 ∷ 9 ∷ 9 ∷
+          8 ∷ 8 ∷ 8 ∷ 8 ∷ 8 ∷ [],
+    ) ∷
+    -- a stop that there is not is refused before it
+    (
+      asked back [] 2 3 5760,
+      15 ∷ 0 ∷
+          9 ∷ 9 ∷ 9 ∷ 9 ∷ 9 ∷
+          8 ∷ 8 ∷ 8 ∷ 8 ∷ 8 ∷ [],
+    ) ∷
+    -- 115 is needed and 112 is scheduled: no transfer
+    (
+      run narrow [] .graph,
+      100 ∷ 110 ∷ 112 ∷ 120 ∷
+          none ∷ none ∷
+          none ∷ none ∷
+          0 ∷ 1 ∷ none ∷ 7 ∷ [],
+    ) ∷
+    -- late by 2 it leaves at 114: none still
+    (
+      run narrow (posting 1 1 2 ∷ []) .graph,
+      100 ∷ 110 ∷ 114 ∷ 122 ∷
+          none ∷ none ∷
+          none ∷ none ∷
+          0 ∷ 1 ∷ none ∷ 7 ∷ [],
+    ) ∷
+    -- late by 3 it is reached
+    (
+      run narrow (posting 1 1 3 ∷ []) .graph,
+      100 ∷ 110 ∷ 115 ∷ 123 ∷
+          none ∷ none ∷
+          1 ∷ none ∷
+          0 ∷ 1 ∷ none ∷ 7 ∷ [],
+    ) ∷
+    -- and there is a journey
+    (
+      asked narrow (posting 1 1 3 ∷ []) 0 2 100,
+      0 ∷ 123 ∷ 2 ∷
+          0 ∷ 0 ∷ 9 ∷
+          0 ∷ 1 ∷ 8 ∷ [],
+    ) ∷
+    -- 0 before 1, and 2 reaches 0
+    (
+      run board [] .graph,
+      100 ∷ 110 ∷ 105 ∷ 115 ∷ 80 ∷ 95 ∷
+          1 ∷ none ∷ none ∷
+          none ∷ none ∷ 0 ∷
+          0 ∷ 2 ∷ 7 ∷ [],
+    ) ∷
+    -- 0 late by 10 moves behind 1
+    (
+      run board (posting 9 0 10 ∷ []) .graph,
+      110 ∷ 120 ∷ 105 ∷ 115 ∷ 80 ∷ 95 ∷
+          none ∷ 0 ∷ none ∷
+          none ∷ none ∷ 1 ∷
+          1 ∷ 2 ∷ 7 ∷ [],
+    ) ∷
+    -- withdrawn, it is where it was
+    (
+      run board (posting 9 0 10 ∷ withdrawal 9 ∷ []) .graph,
+      100 ∷ 110 ∷ 105 ∷ 115 ∷ 80 ∷ 95 ∷
+          1 ∷ none ∷ none ∷
+          none ∷ none ∷ 0 ∷
+          0 ∷ 2 ∷ 7 ∷ [],
+    ) ∷
+    -- a notice of 5 minutes is left: the minute of 1, and the lower first
+    (
+      run board (posting 9 0 10 ∷ posting 8 0 5 ∷ withdrawal 9 ∷ []) .graph,
+      105 ∷ 115 ∷ 105 ∷ 115 ∷ 80 ∷ 95 ∷
+          1 ∷ none ∷ none ∷
+          none ∷ none ∷ 0 ∷
+          0 ∷ 2 ∷ 7 ∷ [],
+    ) ∷
+    -- the last connection of a trip moves no other, not that of the next trip
+    (timesIn trips (posting 1 2 30 ∷ []), 100 ∷ 110 ∷ 115 ∷ 125 ∷ 157 ∷ 167 ∷ 140 ∷ 150 ∷ []) ∷
+    -- of 9 and 4 minutes the 9 count, the first or the last
+    (timesIn trips (posting 5 1 9 ∷ posting 6 1 4 ∷ []), 100 ∷ 110 ∷ 124 ∷ 134 ∷ 134 ∷ 144 ∷ 140 ∷ 150 ∷ []) ∷
+    (timesIn trips (posting 5 1 4 ∷ posting 6 1 9 ∷ []), 100 ∷ 110 ∷ 124 ∷ 134 ∷ 134 ∷ 144 ∷ 140 ∷ 150 ∷ []) ∷
+    -- of 6 minutes the first stop uses up 5 and the second the last; of 8 minutes 3 and then 1 are passed on
+    (timesIn trips (posting 1 0 6 ∷ []), 106 ∷ 116 ∷ 116 ∷ 126 ∷ 127 ∷ 137 ∷ 140 ∷ 150 ∷ []) ∷
+    (timesIn trips (posting 1 0 8 ∷ []), 108 ∷ 118 ∷ 118 ∷ 128 ∷ 128 ∷ 138 ∷ 140 ∷ 150 ∷ []) ∷
+    -- 3 minutes passed on and 2 of its own are 3; with 4 of its own they are 4
+    (timesIn trips (posting 1 0 8 ∷ posting 2 1 2 ∷ []), 108 ∷ 118 ∷ 118 ∷ 128 ∷ 128 ∷ 138 ∷ 140 ∷ 150 ∷ []) ∷
+    (timesIn trips (posting 1 0 8 ∷ posting 2 1 4 ∷ []), 108 ∷ 118 ∷ 119 ∷ 129 ∷ 129 ∷ 139 ∷ 140 ∷ 150 ∷ []) ∷
+    -- refused calls, each by the first refusal that fits
+    (
+      given (run trips refusals .answers),
+      12 ∷ 0 ∷ 13 ∷ 0 ∷ 14 ∷ 0 ∷ 14 ∷ 0 ∷ 0 ∷ 1 ∷ 25 ∷ 0 ∷ 13 ∷ 0 ∷ 12 ∷ 0 ∷ 27 ∷ 0 ∷ [],
+    ) ∷
+    -- change nothing: 1 notice stands, number 1 for connection 0 by 8 minutes
+    (run trips refusals .notices, 1 ∷ 1 ∷ 0 ∷ 8 ∷ (replicate 597 0 ++ (7 ∷ []))) ∷
+    (run trips refusals .graph, run trips (posting 1 0 8 ∷ []) .graph) ∷
+    (timesIn trips refusals, 108 ∷ 118 ∷ 118 ∷ 128 ∷ 128 ∷ 138 ∷ 140 ∷ 150 ∷ []) ∷
+    -- a number that was withdrawn can be posted again
+    (
+      given (run trips (posting 1 0 8 ∷ withdrawal 1 ∷ withdrawal 1 ∷ posting 1 3 2 ∷ []) .answers),
+      0 ∷ 1 ∷ 0 ∷ 1 ∷ 27 ∷ 0 ∷ 0 ∷ 1 ∷ [],
+    ) ∷
+    -- of two that can stand before 2 the lower, although it arrives later
+    (
+      asked choice [] 0 2 100,
+      0 ∷ 150 ∷ 2 ∷
+          0 ∷ 1 ∷ 0 ∷ 9 ∷
+          0 ∷ 2 ∷ 8 ∷ 8 ∷ [],
+    ) ∷
+    -- late by 5 it arrives at 135, and can still
+    (
+      asked choice (posting 1 0 5 ∷ []) 0 2 100,
+      0 ∷ 150 ∷ 2 ∷
+          0 ∷ 1 ∷ 0 ∷ 9 ∷
+          0 ∷ 2 ∷ 8 ∷ 8 ∷ [],
+    ) ∷
+    -- late by 6 it cannot
+    (
+      asked choice (posting 1 0 6 ∷ []) 0 2 100,
+      0 ∷ 150 ∷ 2 ∷
+          0 ∷ 1 ∷ 1 ∷ 9 ∷
+          1 ∷ 2 ∷ 8 ∷ 8 ∷ [],
+    ) ∷
+    -- the largest and the smallest margin; connections that do not meet
+    (timesIn ends (posting 1 1 1440 ∷ []), 0 ∷ 1 ∷ 5758 ∷ 5759 ∷ []) ∷
+    (marginIn ends (posting 1 1 1440 ∷ []) 0 1, 0 ∷ 0 ∷ 5757 ∷ []) ∷
+    (marginIn ends (posting 1 1 1440 ∷ []) 1 0, 0 ∷ 1 ∷ 5819 ∷ []) ∷
+    (marginIn ends [] 0 0, 17 ∷ 0 ∷ []) ∷
+    -- no connection
+    (run empty [] .graph, none ∷ 7 ∷ []) ∷
+    -- the empty journey is there
+    (
+      asked empty [] 0 0 5,
+      0 ∷ 5 ∷ 0 ∷
+          9 ∷
+          8 ∷ [],
+    ) ∷
+    []
+  where
+    refusals : List Call
+    refusals =
+        posting 0 4 0 ∷ posting 1 4 0 ∷ posting 1 0 0 ∷ posting 1 0 1441 ∷ posting 1 0 8 ∷ posting 1 1 2 ∷ posting 1 4 5
+        ∷ withdrawal 0 ∷ withdrawal 2 ∷ []
+
+pub cases-right : right cases ≡ true
+unfolding right cases shown whole asked spare marginIn tests given timesIn run
+    sameMinute overtaking loop meeting back narrow board trips choice ends empty inBytes
+    runOf ran built posted withdrawn enquired margined marginOf lengthsVerdict contentsVerdict same
+    fileVerdict headerVerdict stopVerdict wrongStops wrongTrip wrongTimes wrongJoin connectionVerdict firstBelow
+    transferTime trip from to scheduledDeparture scheduledArrival staysAboard
+    leastBelow tab flat cut areaOf rowsOf stands entered struck standsRight unusedRight rowsFrom rowsVerdict
+    primaryDelay expectedDeparture expectedArrival networkOf firstOn waiting transfer firstDeparture times graphOf
+    canBeFirst canFollow choose rounds predecessors follow arriving lastTo nowhere journeyIn
+cases-right = refl

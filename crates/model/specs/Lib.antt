@@ -1,0 +1,14 @@
+pub mod Least
+pub mod Notices
+pub mod Network
+pub mod Times
+pub mod Graph
+pub mod Order
+pub mod Journeys
+pub mod Predecessors
+pub mod Margin
+pub mod Operations
+pub mod Ready
+pub mod Register
+pub mod Runs
+pub mod Example

@@ -1,0 +1,12 @@
+-- The margin of a change. Assumes nothing.
+use lib.IntN.{ℤ, pos, _-ℤ_}
+use Prim.Native.Nat.{ℕ}
+use Rattle.model.specs.Network.{Network}
+
+-- departure minus arrival minus transfer time, exact and signed
+abbrev pub marginBetween : ℕ → ℕ → ℕ → ℤ
+marginBetween departure arrival transfer = pos departure -ℤ pos arrival -ℤ pos transfer
+
+-- the margin of a change from c to d
+unfoldable pub marginOf : Network → ℕ → ℕ → ℤ
+marginOf net c d = marginBetween (net .departure d) (net .arrival c) (net .transferTime (net .to c))

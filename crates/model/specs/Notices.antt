@@ -1,0 +1,117 @@
+-- Notices, the notice area, and its check. Row width, room, area length and limits are named here and nowhere else.
+-- Assumes nothing.
+use mathlib.Core.Bool.{Bool, true, false, cond, not, _&&_}
+use mathlib.Core.List.{List, [], _∷_, _++_}
+use Prim.Native.Nat.{ℕ, zero, suc, _+_, _*_, _-_, _≤_, _<_}
+use lib.Dec.{ltb, leb, eqb}
+use lib.ListN.{length, getD, drop, replicate}
+use Rattle.timetable.specs.Answers.{refuseIf, orElse}
+use Rattle.timetable.specs.declared.Verdict.{Verdict}
+use Rattle.timetable.specs.declared.Verdict.the-variants.{Passed, Refused}
+
+-- the numbers of one row
+abbrev pub width : ℕ
+width = 3
+
+-- how many notices may stand
+abbrev pub room : ℕ
+room = 200
+
+-- the notice area's stated length
+abbrev pub noticesLength : ℕ
+noticesLength = 1 + width * room
+
+-- the shortest delay, the longest of a posting and the longest of a standing row
+abbrev pub leastDelay : ℕ
+leastDelay = 1
+
+abbrev pub mostPosted : ℕ
+mostPosted = 1440
+
+abbrev pub mostStanding : ℕ
+mostStanding = 1440
+
+pub record Notice : Type 0 where
+  pub number : ℕ
+  pub connection : ℕ
+  pub delay : ℕ
+
+abbrev pub notice : ℕ → ℕ → ℕ → Notice
+notice n c d = record { number = n; connection = c; delay = d }
+
+-- a row's numbers
+abbrev pub numbersIn : Notice → List ℕ
+numbersIn n = n .number ∷ n .connection ∷ n .delay ∷ []
+
+-- the row at the front of a list of numbers
+abbrev pub rowAt : List ℕ → Notice
+rowAt xs = notice (getD xs 0 0) (getD xs 1 0) (getD xs 2 0)
+
+-- the rows' numbers, row after row
+unfoldable pub flat : List Notice → List ℕ
+flat [] = []
+flat (n ∷ ns) = numbersIn n ++ flat ns
+
+-- the first k rows of a list of numbers
+unfoldable pub cut : ℕ → List ℕ → List Notice
+cut zero xs = []
+cut (suc k) xs = rowAt xs ∷ cut k (drop width xs)
+
+-- the notice area of the notices that stand: how many, their rows, zeros
+unfoldable pub areaOf : List Notice → List ℕ
+areaOf ns = length ns ∷ (flat ns ++ replicate (width * room - width * length ns) 0)
+
+-- the notices that stand by an area
+unfoldable pub rowsOf : List ℕ → List Notice
+rowsOf area = cut (getD area 0 0) (drop 1 area)
+
+-- a notice of this number stands
+unfoldable pub stands : ℕ → List Notice → Bool
+stands m [] = false
+stands m (n ∷ ns) = cond (eqb (n .number) m) true (stands m ns)
+
+-- a notice entered before the first of a higher number
+unfoldable pub entered : Notice → List Notice → List Notice
+entered a [] = a ∷ []
+entered a (n ∷ ns) = cond (ltb (a .number) (n .number)) (a ∷ n ∷ ns) (n ∷ entered a ns)
+
+-- the notices of other numbers
+unfoldable pub struck : ℕ → List Notice → List Notice
+struck m [] = []
+struck m (n ∷ ns) = cond (eqb (n .number) m) (struck m ns) (n ∷ struck m ns)
+
+-- a standing row is right after a row of the number before; 0 stands before the first row, so that no right number is 0
+unfoldable pub standsRight : ℕ → ℕ → Notice → Bool
+standsRight C before n = ltb before (n .number) && ltb (n .connection) C && leb leastDelay (n .delay) && leb (n .delay) mostStanding
+
+-- an unused row is right if its numbers are 0
+unfoldable pub unusedRight : Notice → Bool
+unusedRight n = eqb (n .number) 0 && eqb (n .connection) 0 && eqb (n .delay) 0
+
+-- refusal 23 of some rows of which the first is row k: so many of them stand, the others are unused
+unfoldable pub rowsFrom : ℕ → ℕ → ℕ → ℕ → List Notice → Verdict
+rowsFrom C k before count [] = Passed
+rowsFrom C k before zero (n ∷ ns) = orElse (refuseIf (not (unusedRight n)) 23 k) (rowsFrom C (suc k) before zero ns)
+rowsFrom C k before (suc count) (n ∷ ns) =
+    orElse (refuseIf (not (standsRight C before n)) 23 k) (rowsFrom C (suc k) (n .number) count ns)
+
+-- refusal 23 of a notice area: at 0 for a count above the room, else at the first wrong row, counted from 1
+unfoldable pub rowsVerdict : ℕ → List ℕ → Verdict
+rowsVerdict C area =
+    orElse (refuseIf (ltb room (getD area 0 0)) 23 0) (rowsFrom C 1 0 (getD area 0 0) (cut room (drop 1 area)))
+
+-- a notice within its limits
+pub record Within (C : ℕ) (n : Notice) : Type 0 where
+  pub exists : n .connection < C
+  pub least : leastDelay ≤ n .delay
+  pub most : n .delay ≤ mostStanding
+
+-- rows that may stand after a row of the number before: ascending, each within its limits
+abbrev pub Ascending : ℕ → ℕ → List Notice → Type 0
+Ascending C before [] = Unit {0}
+Ascending C before (n ∷ ns) = (before < n .number) × Within C n × Ascending C (n .number) ns
+
+-- notices that may stand together
+pub record WellFormed (C : ℕ) (ns : List Notice) : Type 0 where
+  pub ascending : Ascending C 0 ns
+  pub fits : length ns ≤ room

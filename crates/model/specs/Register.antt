@@ -1,0 +1,51 @@
+-- The register of notices (document 01: the book): what a clerk would keep, fed the connection count and the calls' own
+-- numbers. Assumes nothing.
+use mathlib.Core.Bool.{Bool, cond, not, _&&_}
+use mathlib.Core.List.{List, [], _∷_}
+use Prim.Native.Nat.{ℕ}
+use lib.Dec.{leb, eqb}
+use lib.ListN.{length}
+use Rattle.timetable.specs.Answers.{Answer, accepted, refused}
+use Rattle.model.specs.Notices.{Notice, notice, room, leastDelay, mostPosted, stands, entered, struck}
+
+-- a call of a run, with its own numbers
+pub data Call : Type 0 where
+  posting : ℕ → ℕ → ℕ → Call
+  withdrawal : ℕ → Call
+
+-- an answer, and the register afterwards
+pub record Step : Type 0 where
+  pub answer : Answer ℕ
+  pub register : List Notice
+
+-- a refusal leaves the register alone
+abbrev pub refuse : List Notice → ℕ → Step
+refuse register n = record { answer = refused n 0; register = register }
+
+abbrev pub accept : List Notice → ℕ → Step
+accept register n = record { answer = accepted n; register = register }
+
+unfoldable pub registerStep : ℕ → List Notice → Call → Step
+registerStep C register (posting n c d) =
+    cond (eqb n 0) (refuse register 12)
+    (cond (leb C c) (refuse register 13)
+    (cond (not (leb leastDelay d && leb d mostPosted)) (refuse register 14)
+    (cond (stands n register) (refuse register 25)
+    (cond (leb room (length register)) (refuse register 26)
+    (accept (entered (notice n c d) register) n)))))
+registerStep C register (withdrawal n) =
+    cond (eqb n 0) (refuse register 12)
+    (cond (not (stands n register)) (refuse register 27)
+    (accept (struck n register) n))
+
+-- the register's answers to a list of calls, and the register after it
+pub record Kept : Type 0 where
+  pub answers : List (Answer ℕ)
+  pub register : List Notice
+
+unfoldable pub kept : ℕ → List Notice → List Call → Kept
+kept C register [] = record { answers = []; register = register }
+kept C register (call ∷ calls) =
+    let s = registerStep C register call in
+    let k = kept C (s .register) calls in
+    record { answers = s .answer ∷ k .answers; register = k .register }

@@ -1,0 +1,50 @@
+-- Delays and expected times (document 01: times in force), and the network of a timetable with its notices. Assumes nothing.
+use mathlib.Core.Bool.{cond}
+use mathlib.Core.List.{List, [], _∷_}
+use Prim.Native.Nat.{ℕ, zero, suc, _+_, _-_, max}
+use lib.Dec.{eqb}
+use Rattle.timetable.specs.File.{stops, connections, transferTime, from, to, scheduledDeparture, scheduledArrival, staysAboard}
+use Rattle.model.specs.Notices.{Notice}
+use Rattle.model.specs.Network.{Network}
+
+-- the primary delay (document 01: own delay): the largest delay among a connection's notices, 0 without one
+unfoldable pub primaryDelay : ℕ → List Notice → ℕ
+primaryDelay c [] = 0
+primaryDelay c (n ∷ ns) = cond (eqb (n .connection) c) (max (n .delay) (primaryDelay c ns)) (primaryDelay c ns)
+
+-- the scheduled departure plus the connection's own delay
+abbrev pub ownDeparture : List ℕ → (ℕ → ℕ) → ℕ → ℕ
+ownDeparture f delay c = scheduledDeparture f c + delay c
+
+-- the scheduled travel time
+abbrev pub travelTime : List ℕ → ℕ → ℕ
+travelTime f c = scheduledArrival f c - scheduledDeparture f c
+
+-- a connection leaves at its own departure, or when the one before it in its trip arrives if that is later
+unfoldable pub expectedDeparture : List ℕ → (ℕ → ℕ) → ℕ → ℕ
+expectedDeparture f delay zero = ownDeparture f delay zero
+expectedDeparture f delay (suc c) =
+    let arrival = expectedDeparture f delay c + travelTime f c in
+    cond (staysAboard f (suc c)) (max (ownDeparture f delay (suc c)) arrival) (ownDeparture f delay (suc c))
+
+-- it takes its scheduled travel time
+unfoldable pub expectedArrival : List ℕ → (ℕ → ℕ) → ℕ → ℕ
+expectedArrival f delay c = expectedDeparture f delay c + travelTime f c
+
+-- the network of a timetable whose connections have these delays of their own
+abbrev pub networkWith : List ℕ → (ℕ → ℕ) → Network
+networkWith f delay =
+    record {
+      stops = stops f;
+      connections = connections f;
+      from = from f;
+      to = to f;
+      departure = expectedDeparture f delay;
+      arrival = expectedArrival f delay;
+      staysAboard = staysAboard f;
+      transferTime = transferTime f;
+    }
+
+-- the network of a timetable and the notices that stand
+unfoldable pub networkOf : List ℕ → List Notice → Network
+networkOf f ns = networkWith f (λ c. primaryDelay c ns)

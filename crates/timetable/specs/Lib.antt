@@ -1,0 +1,6 @@
+pub mod Answers
+pub mod File
+pub mod Check
+pub mod Room
+pub mod Accepted
+pub mod Refusals
