@@ -16,6 +16,7 @@ pub mod Follows
 pub mod Routes
 pub mod Rounds
 pub mod Journeys
+pub mod Enquiries
 pub mod Runs
 pub mod Margin
 pub mod Instances

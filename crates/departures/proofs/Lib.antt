@@ -1,0 +1,5 @@
+pub mod Stores
+pub mod Counts
+pub mod Sorting
+pub mod Places
+pub mod Turns
