@@ -1,0 +1,3 @@
+pub mod Trail
+pub mod Search
+pub mod Reading

@@ -1,0 +1,30 @@
+-- The answer of an enquiry, and what reading its journey out of the predecessors asks and gives. Assumes nothing.
+use mathlib.Core.Path.{_≡_}
+use mathlib.Core.List.{List}
+use Prim.Native.Nat.{ℕ, _≤_}
+use lib.ListN.{length, take}
+use Rattle.timetable.specs.Answers.{Answer, accepted, refused}
+use Rattle.timetable.specs.File.{connections}
+use Rattle.model.specs.Network.{Network}
+use Rattle.model.specs.Predecessors.{predecessors, nowhere, journeyIn}
+use Rattle.model.specs.Operations.{Arrival, Enquiry, answered}
+use Rattle.model.specs.Ready.{networkBy, Ready}
+use Rattle.journeys.specs.declared.Enquired.{Enquired}
+use Rattle.journeys.specs.declared.Enquired.the-variants.{Arrives, Refused}
+
+-- document 01's values and numbers of an enquiry's answer
+abbrev pub told : Enquired → Answer Arrival
+told (Arrives t n) = accepted (record { time = t; connections = n })
+told (Refused n p) = refused n p
+
+-- what reading a journey out of the predecessors in a work area answers
+abbrev pub readOut : Network → List ℕ → List ℕ → ℕ → ℕ → ℕ → Enquiry
+readOut net work journey a b t =
+    let w = take (net .connections) work in
+    answered (nowhere net w a b) net t (journeyIn net w a b) work journey
+
+-- accepted areas, the predecessors of an enquiry from stop a at time t in the work area, and room for the journey
+pub record Reading (f notices graph work journey : List ℕ) (a t : ℕ) : Type 0 where
+  pub ready : Ready f notices graph
+  pub filled : take (connections f) work ≡ predecessors (networkBy f notices) a t
+  pub room : connections f ≤ length journey

@@ -1,0 +1,21 @@
+-- Predecessors that can be followed to the start of a journey. Assumes nothing.
+use mathlib.Core.Path.{_≡_}
+use mathlib.Core.Bool.{cond}
+use mathlib.Core.List.{List, [], _∷_}
+use Prim.Native.Nat.{ℕ, _<_}
+use lib.Dec.{eqb}
+use lib.ListN.{length, getD}
+use Rattle.model.specs.Least.{none}
+use Rattle.model.specs.Predecessors.{follow}
+
+-- following an entry leads to an entry, and comes to its end within as many steps as there are entries
+pub record Rooted (w : List ℕ) : Type 0 where
+  pub within : (c : ℕ) → c < length w → getD w c none < none → getD w c none < length w
+  pub onward : (c : ℕ) → c < length w → getD w c none < none → getD w (getD w c none) none < none
+  pub ended : (c : ℕ) → c < length w → getD w c none < none → follow w (length w) c ≡ c ∷ cond (eqb (getD w c none) c) [] (follow w (length w) (getD w c none))
+
+-- a journey by the predecessors in w ends with connection c
+pub record Trail (w : List ℕ) (c : ℕ) : Type 0 where
+  pub rooted : Rooted w
+  pub numbered : c < length w
+  pub reached : getD w c none < none

@@ -1,0 +1,141 @@
+// The journey of an enquiry, read out of its predecessors: the last connection, how many there are, and all of them in the
+// order of travel.
+ghost use mathlib.Core.Path.{_≡_};
+ghost use mathlib.Core.Bool.{_&&_};
+ghost use mathlib.Core.List.{_++_, reverse};
+ghost use Prim.Native.Nat.{_+_, _<_, _≤_};
+ghost use lib.Dec.{eqb};
+ghost use lib.ListN.{length, drop};
+ghost use Rattle.timetable.specs.File.{to};
+ghost use Rattle.timetable.specs.Room.{HasConnection};
+ghost use Rattle.model.specs.Predecessors.{reachedIn, lastTo, follow};
+ghost use Rattle.model.specs.Operations.{enquiry};
+ghost use Rattle.model.specs.Ready.{networkBy};
+ghost use Rattle.journeys.specs.Trail.{Trail};
+ghost use Rattle.journeys.specs.Search.{Searched, Turn, Better};
+ghost use Rattle.journeys.specs.Reading.{told, readOut, Reading};
+
+// No connection.
+const NONE: u16 = 65535;
+
+// The refusal where there is no journey.
+const UNREACHABLE: u16 = 30;
+
+// The answer of an enquiry: arrival and how many connections, or the refusal's number and place.
+pub enum Enquired {
+    Arrives(u16, u16),
+    Refused(u16, u16),
+}
+
+// Whether a journey ends with connection c and c arrives at a stop.
+fn arrives_at(file: &[u8], predecessors: &[u16], stops: usize, c: usize, stop: u16) -> bool
+    requires { ⌜ (c < length (now predecessors)) × HasConnection (now file) stops c ⌝ }
+    ensures { λ r. ⌜ r ≡ (reachedIn (now (predecessors .entry)) c && eqb (to (now (file .entry)) c) stop) ⌝ }
+{
+    if predecessors[c] >= NONE {
+        return false;
+    }
+    timetable::to(file, stops, c) == stop
+}
+
+// One turn of the search for the last connection: the better of the best so far and c.
+fn better(
+    file: &[u8],
+    notices: &[u16],
+    graph: &[u16],
+    predecessors: &[u16],
+    stops: usize,
+    best: u16,
+    c: usize,
+    stop: u16,
+) -> u16
+    requires { ⌜ Turn (now file) (now notices) (now graph) (now predecessors) stops best c stop ⌝ }
+    ensures { λ r. ⌜ Better (now (file .entry)) (now (notices .entry)) (now (predecessors .entry)) stop (c + 1) r ⌝ }
+{
+    if !arrives_at(file, predecessors, stops, c, stop) {
+        return best;
+    }
+    if best >= NONE {
+        return c as u16;
+    }
+    let r = best as usize;
+    if entries::arrival(graph, c) < entries::arrival(graph, r) {
+        return c as u16;
+    }
+    best
+}
+
+// The last connection of the journey to a stop, or none.
+fn find_last(file: &[u8], notices: &[u16], graph: &[u16], predecessors: &[u16], stop: u16) -> u16
+    requires { ⌜ Searched (now file) (now notices) (now graph) (now predecessors) ⌝ }
+    ensures { λ r. ⌜ r ≡ lastTo (networkBy (now (file .entry)) (now (notices .entry))) (now (predecessors .entry)) stop ⌝ }
+{
+    let stops = timetable::stops(file) as usize;
+    let mut best = NONE;
+    let mut c = 0;
+    while c < predecessors.len() {
+        best = better(file, notices, graph, predecessors, stops, best, c, stop);
+        c += 1;
+    }
+    best
+}
+
+// How many connections the journey has that ends with last.
+fn journey_length(predecessors: &[u16], last: u16) -> usize
+    requires { ⌜ Trail (now predecessors) last ⌝ }
+    ensures { λ r. ⌜ r ≡ length (follow (now (predecessors .entry)) (length (now (predecessors .entry))) last) ⌝ }
+{
+    let mut k = 1;
+    let mut c = last;
+    while predecessors[c as usize] != c {
+        c = predecessors[c as usize];
+        k += 1;
+    }
+    k
+}
+
+// Writes the journey that ends with last, in the order of travel, to the front of the journey area; how many connections
+// it has.
+fn write_journey(predecessors: &[u16], journey: &mut [u16], last: u16) -> usize
+    requires { ⌜ Trail (now predecessors) last × (length (now predecessors) ≤ length (now journey)) ⌝ }
+    ensures { λ r. ⌜ (r ≡ length (follow (now (predecessors .entry)) (length (now (predecessors .entry))) last)) × (now (journey .exit) ≡ reverse (follow (now (predecessors .entry)) (length (now (predecessors .entry))) last) ++ drop r (now (journey .entry))) ⌝ }
+{
+    let k = journey_length(predecessors, last);
+    let mut i = k;
+    let mut c = last;
+    while 0 < i {
+        i -= 1;
+        journey[i] = c;
+        c = predecessors[c as usize];
+    }
+    k
+}
+
+// The journey to stop `to` read out of the predecessors of an enquiry from stop `from` at `time`: its connections in the
+// order of travel to the front of `journey`, or refusal 30.
+pub fn read_journey(
+    file: &[u8],
+    notices: &[u16],
+    graph: &[u16],
+    work: &[u16],
+    journey: &mut [u16],
+    from: u16,
+    to: u16,
+    time: u16,
+) -> Enquired
+    requires { ⌜ Reading (now file) (now notices) (now graph) (now work) (now journey) from time ⌝ }
+    ensures { λ r. ⌜ enquiry (told r) (now (work .entry)) (now (journey .exit)) ≡ readOut (networkBy (now (file .entry)) (now (notices .entry))) (now (work .entry)) (now (journey .entry)) from to time ⌝ }
+{
+    if from == to {
+        return Enquired::Arrives(time, 0);
+    }
+    let n = timetable::connections(file) as usize;
+    let predecessors = &work[0..n];
+    let last = find_last(file, notices, graph, predecessors, to);
+    if last >= NONE {
+        return Enquired::Refused(UNREACHABLE, 0);
+    }
+    let count = write_journey(predecessors, journey, last);
+    let arrival = entries::arrival(graph, last as usize);
+    Enquired::Arrives(arrival, count as u16)
+}
