@@ -1,0 +1,6 @@
+pub mod Places
+pub mod Steps
+pub mod Visited
+pub mod Invariant
+pub mod Read
+pub mod Passes

@@ -1,0 +1,71 @@
+-- The pass over accepted areas: its start, a turn and its end; and a part of the work area that is lent. Assumes nothing.
+use mathlib.Core.Path.{_≡_}
+use mathlib.Core.Logic.{⊎-elim}
+use mathlib.Core.List.{List, _++_}
+use Prim.Native.Nat.{ℕ, _+_, _-_, _<_, _≤_}
+use native.Mathlib.Nat.{sub-zero}
+use native.Mathlib.Omega.{arith}
+use borrow.Rule.Slice.PartMut.{postOf, post-is}
+use lib.ListN.{length, getD, take, drop, replicate}
+use lib.Seq.{length-take-le}
+use Rattle.timetable.specs.File.{stops, connections}
+use Rattle.model.specs.Least.{none}
+use Rattle.model.specs.Network.{Network}
+use Rattle.model.specs.Times.{networkOf}
+use Rattle.model.specs.Predecessors.{predecessors}
+use Rattle.model.specs.Ready.{networkBy}
+use Rattle.model.proofs.Ready.{sound}
+use Rattle.predecessors.specs.Visits.{turned}
+use Rattle.predecessors.specs.Sweepable.{Sweepable, Turnable}
+use Rattle.predecessors.proofs.Invariant.{Swept, swept-cleared, swept-slot, swept-all}
+
+module _ (f notices graph order : List ℕ) (p : Sweepable f notices graph order) where
+  abbrev net : Network
+  net = networkBy f notices
+
+  abbrev slots : ℕ
+  slots = connections f + connections f
+
+  module _ (i : ℕ) (h : i < slots) where
+    -- the slot is one of the order's
+    pub slot-room : i < length order
+    slot-room = omega (arith, p .ordered .room)
+
+    -- what it holds can have its turn
+    pub slot-holds : (s : ℕ) → s ≡ stops f → Turnable f notices graph s (getD order i 0)
+    slot-holds s q =
+        record { ready = p .ready; count = q; held = λ l. ⊎-elim (λ o. absurd (omega (arith, o .0))) (λ o. o .0) (p .ordered .slots i h) }
+
+  module _ (a t : ℕ) where
+    -- the work area before slot i has its turn
+    abbrev pub Passed : ℕ → List ℕ → Type 0
+    Passed i work = Swept (networkBy f notices) a t (p .ordered .place) i work
+
+    -- at the start every entry is none
+    pub pass-starts : (work : List ℕ) (m : ℕ) → work ≡ replicate m none → m ≡ connections f → Passed 0 work
+    unfolding networkOf
+    pass-starts work m e q = swept-cleared net a t (p .ordered .place) work m e q
+
+    -- there is an entry for each connection
+    pub passed-long : (i : ℕ) (work : List ℕ) → Passed i work → length work ≡ connections f
+    unfolding networkOf
+    passed-long i work s = s .long
+
+    -- slot i has its turn
+    pub pass-turn : (i : ℕ) → i < slots → (work after : List ℕ) → Passed i work → after ≡ turned (networkBy f notices) a t work (getD order i 0) → Passed (i + 1) after
+    unfolding networkOf
+    pass-turn i h work after s e =
+        rw e (swept-slot net a t (p .ordered .place) (sound f notices graph (p .ready)) (p .ordered .rises) i (getD order i 0) work (p .ordered .slots i h) s)
+
+    -- after the last slot the predecessors are there
+    pub pass-ends : (work : List ℕ) → Passed slots work → work ≡ predecessors (networkBy f notices) a t
+    unfolding networkOf
+    pass-ends work s = swept-all net a t (p .ordered .place) slots work (p .ordered .within) s
+
+-- the first n of a list are n
+pub part-length : (l : List ℕ) (n : ℕ) → n ≤ length l → length (take (n - 0) l) ≡ n
+part-length l n h = rw sub-zero (length-take-le n l h)
+
+-- what comes back stands before the rest
+pub part-back : (l x y : List ℕ) (n m : ℕ) → x ≡ y → n ≡ m → x ++ postOf 0 (n - 0) l ≡ y ++ drop m l
+part-back l x y n m e q = rw (e, post-is 0 n l (omega arith), q)

@@ -1,0 +1,173 @@
+// The predecessors of an enquiry: one pass over the connections in the order of departure, in place.
+ghost use mathlib.Core.Path.{_≡_};
+ghost use mathlib.Core.List.{_++_};
+ghost use Prim.Native.Nat.{_≤_};
+ghost use lib.ListN.{length, drop, replicate};
+ghost use Rattle.timetable.specs.File.{stops, connections};
+ghost use Rattle.model.specs.Least.{none};
+ghost use Rattle.model.specs.Journeys.{canBeFirst};
+ghost use Rattle.model.specs.Predecessors.{predecessors};
+ghost use Rattle.model.specs.Ready.{networkBy};
+ghost use Rattle.predecessors.specs.Visits.{offered, settled, visited, turned};
+ghost use Rattle.predecessors.specs.Sweepable.{Visitable, Turnable, Sweepable};
+
+// No connection.
+const NONE: u16 = 65535;
+
+// Sets every entry to none.
+fn clear(work: &mut [u16])
+    ensures { λ _. ⌜ now (work .exit) ≡ replicate (length (now (work .entry))) none ⌝ }
+{
+    let mut i = 0;
+    while i < work.len() {
+        work[i] = NONE;
+        i += 1;
+    }
+}
+
+// Offers e to x: work[x] becomes e if that is lower. An x past the end, as none, is passed over.
+fn offer(x: u16, e: u16, work: &mut [u16])
+    ensures { λ _. ⌜ now (work .exit) ≡ offered (now (work .entry)) x e ⌝ }
+{
+    let i = x as usize;
+    if i < work.len() {
+        if e < work[i] {
+            work[i] = e;
+        }
+    }
+}
+
+// Whether connection d leaves stop `from` at `time` or later.
+fn can_be_first(
+    file: &[u8],
+    notices: &[u16],
+    graph: &[u16],
+    stops: usize,
+    d: usize,
+    from: u16,
+    time: u16,
+) -> bool
+    requires { ⌜ Visitable (now file) (now notices) (now graph) stops d ⌝ }
+    ensures { λ r. ⌜ r ≡ canBeFirst (networkBy (now (file .entry)) (now (notices .entry))) from time d ⌝ }
+{
+    if timetable::from(file, stops, d) == from {
+        return time <= entries::departure(graph, d);
+    }
+    false
+}
+
+// The entry that connection d gets on its visit.
+fn settle(
+    file: &[u8],
+    notices: &[u16],
+    graph: &[u16],
+    stops: usize,
+    d: u16,
+    from: u16,
+    time: u16,
+    work: &[u16],
+) -> u16
+    requires { ⌜ Visitable (now file) (now notices) (now graph) stops d × (length (now work) ≡ connections (now file)) ⌝ }
+    ensures { λ r. ⌜ r ≡ settled (networkBy (now (file .entry)) (now (notices .entry))) from time (now (work .entry)) d ⌝ }
+{
+    let c = d as usize;
+    if can_be_first(file, notices, graph, stops, c, from, time) {
+        return d;
+    }
+    let collected = work[c];
+    if timetable::stays_aboard(file, stops, c) {
+        if work[c - 1] < NONE {
+            let before = d - 1;
+            if before < collected {
+                return before;
+            }
+        }
+    }
+    collected
+}
+
+// The visit of connection d: what it has collected goes on along its waiting arc, d gets its entry, and if it is reached it
+// is offered along its transfer arc.
+fn visit(
+    file: &[u8],
+    notices: &[u16],
+    graph: &[u16],
+    stops: usize,
+    d: u16,
+    from: u16,
+    time: u16,
+    work: &mut [u16],
+)
+    requires { ⌜ Visitable (now file) (now notices) (now graph) stops d × (length (now work) ≡ connections (now file)) ⌝ }
+    ensures { λ _. ⌜ now (work .exit) ≡ visited (networkBy (now (file .entry)) (now (notices .entry))) from time (now (work .entry)) d ⌝ }
+{
+    let n = work.len();
+    let c = d as usize;
+    let collected = work[c];
+    let entry = settle(file, notices, graph, stops, d, from, time, work);
+    offer(entries::waiting(graph, n, c), collected, work);
+    work[c] = entry;
+    if entry < NONE {
+        offer(entries::transfer(graph, n, c), d, work);
+    }
+}
+
+// The turn of a slot of the order: the visit of the connection d that it holds, if it holds one.
+fn turn(
+    file: &[u8],
+    notices: &[u16],
+    graph: &[u16],
+    stops: usize,
+    d: u16,
+    from: u16,
+    time: u16,
+    work: &mut [u16],
+)
+    requires { ⌜ Turnable (now file) (now notices) (now graph) stops d × (length (now work) ≡ connections (now file)) ⌝ }
+    ensures { λ _. ⌜ now (work .exit) ≡ turned (networkBy (now (file .entry)) (now (notices .entry))) from time (now (work .entry)) d ⌝ }
+{
+    if d < NONE {
+        visit(file, notices, graph, stops, d, from, time, work);
+    }
+}
+
+// The predecessors, where the work area has an entry for each connection and no more.
+fn sweep(
+    file: &[u8],
+    notices: &[u16],
+    graph: &[u16],
+    order: &[u16],
+    from: u16,
+    time: u16,
+    work: &mut [u16],
+)
+    requires { ⌜ Sweepable (now file) (now notices) (now graph) (now order) × (length (now work) ≡ connections (now file)) ⌝ }
+    ensures { λ _. ⌜ now (work .exit) ≡ predecessors (networkBy (now (file .entry)) (now (notices .entry))) from time ⌝ }
+{
+    clear(work);
+    let stops = timetable::stops(file) as usize;
+    let slots = 2 * work.len();
+    let mut slot = 0;
+    while slot < slots {
+        turn(file, notices, graph, stops, order[slot], from, time, work);
+        slot += 1;
+    }
+}
+
+// The predecessor of each connection for an enquiry from stop `from` at `time`: one pass over the connections in the order of
+// departure.
+pub fn fill_predecessors(
+    file: &[u8],
+    notices: &[u16],
+    graph: &[u16],
+    order: &[u16],
+    from: u16,
+    time: u16,
+    work: &mut [u16],
+)
+    requires { ⌜ Sweepable (now file) (now notices) (now graph) (now order) × (connections (now file) ≤ length (now work)) ⌝ }
+    ensures { λ _. ⌜ now (work .exit) ≡ predecessors (networkBy (now (file .entry)) (now (notices .entry))) from time ++ drop (connections (now (file .entry))) (now (work .entry)) ⌝ }
+{
+    let n = timetable::connections(file) as usize;
+    sweep(file, notices, graph, order, from, time, &mut work[0..n]);
+}
