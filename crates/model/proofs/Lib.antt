@@ -17,6 +17,7 @@ pub mod Routes
 pub mod Rounds
 pub mod Journeys
 pub mod Enquiries
+pub mod Fronts
 pub mod Runs
 pub mod Margin
 pub mod Instances
