@@ -1,0 +1,9 @@
+pub mod Tests
+pub mod Reading
+pub mod Digits
+pub mod Words
+pub mod Writing
+pub mod Signed
+pub mod Lengths
+pub mod Distinct
+pub mod Instances

@@ -1,0 +1,4 @@
+pub mod Decimal
+pub mod Commands
+pub mod Lines
+pub mod Room

@@ -1,0 +1,4 @@
+pub mod Turns
+pub mod Events
+pub mod Delays
+pub mod Timed

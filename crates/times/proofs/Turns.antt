@@ -1,0 +1,85 @@
+-- The loop that fills the times: what one turn does, and that its last leaves the whole list. Assumes nothing.
+use mathlib.Core.Path.{_≡_, refl, _∙_, sym}
+use mathlib.Core.Logic.{_⊎_, inl, inr, ⊎-elim}
+use mathlib.Core.Bool.{Bool, true, false, cond}
+use mathlib.Core.List.{List, [], _∷_, _++_, append-nil}
+use Prim.Native.Nat.{ℕ, zero, suc, _+_, _*_, _<_, _≤_, max}
+use native.Mathlib.Numerals.{add-one}
+use native.Mathlib.Omega.{arith}
+use lib.ListN.{length, getD, drop, set}
+use lib.Seq.{drop-cons, drop-length}
+use Rattle.timetable.specs.File.{connections, scheduledDeparture, scheduledArrival, staysAboard}
+use Rattle.timetable.specs.Room.{HasConnection}
+use Rattle.timetable.proofs.Accepted.{room-for}
+use Rattle.model.specs.Network.{Network, lastExpected}
+use Rattle.model.specs.Notices.{mostStanding}
+use Rattle.model.specs.Graph.{times}
+use Rattle.model.specs.Times.{expectedDeparture, expectedArrival}
+use Rattle.model.proofs.Tests.{by-bool}
+use Rattle.model.proofs.GraphArea.{length-times}
+use Rattle.model.proofs.Times.{first-starts, departure-own, departure-after, arrival-most}
+use Rattle.times.specs.Times.{Opened, Delays, departsAt, longestTime}
+
+-- the own departure stands where it is not before the arrival, or where the trip starts
+pub own-stands : (s : Bool) (own before : ℕ) → ((s ≡ true) × (before ≤ own)) ⊎ (s ≡ false) → own ≡ cond s (max own before) own
+own-stands s own before (inl w) = rw (w .0) (omega (arith, w .1))
+own-stands s own before (inr w) = rw w
+
+-- the departure by the arrival of the connection before
+pub departs-is : (f : List ℕ) (delay : ℕ → ℕ) (c before : ℕ) → ((e : ℕ) → c ≡ suc e → before ≡ expectedArrival f delay e)
+    → departsAt f c (delay c) before ≡ expectedDeparture f delay c
+departs-is f delay zero before h = rw (first-starts f) (sym (departure-own f delay zero (first-starts f)))
+departs-is f delay (suc e) before h =
+    ⊎-elim
+    (λ (s : staysAboard f (suc e) ≡ true). rw (s, h e refl) (sym (departure-after f delay e s)))
+    (λ (s : staysAboard f (suc e) ≡ false). rw s (sym (departure-own f delay (suc e) s)))
+    (by-bool (staysAboard f (suc e)))
+
+-- the file holds each of its connections
+pub connection-room : (f : List ℕ) (s n c : ℕ) → Opened f s n → c < n → HasConnection f s c
+connection-room f s n c o h = rw (o .stops) (room-for f (o .timetable) c (omega (arith, o .connections)))
+
+-- no arrival is above the last minute of a time in force
+pub arrives-by : (f : List ℕ) (s n : ℕ) (delays : List ℕ) → Opened f s n → Delays delays n → (c : ℕ) → c < n
+    → expectedArrival f (λ e. getD delays e 0) c ≤ lastExpected
+arrives-by f s n delays o d c h =
+    let k : c < connections f = omega (arith, o .connections) in
+    omega (arith, o .timetable .within c k, arrival-most f (o .timetable) (λ e. getD delays e 0) mostStanding c (λ e l. d .most e (omega (arith, o .connections))) k)
+
+-- what the times of connection c ask
+pub times-asked : (f : List ℕ) (s n : ℕ) (delays : List ℕ) (c before : ℕ) → Opened f s n → Delays delays n → c < n → before ≤ longestTime
+    → (HasConnection f s c × (scheduledDeparture f c ≤ scheduledArrival f c))
+    × ((before ≤ longestTime) × (getD delays c 0 ≤ longestTime) × (scheduledArrival f c ≤ longestTime))
+times-asked f s n delays c before o d h b =
+    let k : c < connections f = omega (arith, o .connections) in (
+      (connection-room f s n c o h, omega (arith, o .timetable .forward c k)),
+      (b, omega (arith, d .most c h), omega (arith, o .timetable .within c k)),
+    )
+
+-- two stores behind the first 2 * c numbers
+two : (p : List ℕ) (x y a b : ℕ) (r : List ℕ) (k : ℕ) → length p ≡ k → set (set (p ++ x ∷ y ∷ r) k a) (k + 1) b ≡ p ++ (a ∷ b ∷ []) ++ r
+two [] x y a b r k e = rw (← e)
+two (z ∷ p) x y a b r zero e = absurd (omega arith)
+two (z ∷ p) x y a b r (suc k) e =
+    let q : suc k + 1 ≡ suc (k + 1) = omega arith in
+    rw (q, two p x y a b r k (omega arith))
+
+-- one turn
+pub times-turn : (net : Network) (c : ℕ) (area : List ℕ) → 2 * c + 1 < length area
+    → set (set (times net c ++ drop (2 * c) area) (2 * c) (net .departure c)) (2 * c + 1) (net .arrival c) ≡ times net (c + 1) ++ drop (2 * (c + 1)) area
+unfolding times
+times-turn net c area h =
+    let e : drop (2 * c) area ≡ getD area (2 * c) 0 ∷ getD area (suc (2 * c)) 0 ∷ drop (suc (suc (2 * c))) area =
+    drop-cons area (2 * c) 0 (omega arith) ∙ rw (drop-cons area (suc (2 * c)) 0 (omega arith)) in
+    let n : 2 * (c + 1) ≡ suc (suc (2 * c)) = omega arith in
+    rw (e, n, add-one c) (two (times net c) _ _ (net .departure c) (net .arrival c) _ (2 * c) (length-times net c))
+
+-- one turn in the code's numbers
+pub times-more : (net : Network) (c departure arrival : ℕ) (area area₀ : List ℕ) → area ≡ times net c ++ drop (2 * c) area₀ → 2 * c + 1 < length area₀
+    → departure ≡ net .departure c → arrival ≡ net .arrival c
+    → set (set area (2 * c) departure) (2 * c + 1) arrival ≡ times net (c + 1) ++ drop (2 * (c + 1)) area₀
+times-more net c departure arrival area area₀ e l p q = rw (e, p, q) (times-turn net c area₀ l)
+
+-- after the last turn
+pub times-done : (net : Network) (n c : ℕ) (area : List ℕ) → c ≡ n → length area ≡ 2 * n → times net c ++ drop (2 * c) area ≡ times net n
+times-done net n c area e l = rw (e, ← l, drop-length) (append-nil (times net n))
