@@ -1,0 +1,5 @@
+pub mod Places
+pub mod Turns
+pub mod Ends
+pub mod Delays
+pub mod Standing
