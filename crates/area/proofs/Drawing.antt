@@ -1,0 +1,91 @@
+-- The graph area put together from its parts, and compared. Assumes nothing.
+use mathlib.Core.Path.{_≡_, _∙_, ap}
+use mathlib.Core.List.{List, _++_, append-assoc}
+use Prim.Native.Nat.{ℕ, _+_, _*_, _-_, _≤_}
+use native.Mathlib.Nat.{sub-zero}
+use native.Mathlib.Omega.{arith}
+use borrow.Rule.Slice.PartMut.{midOf}
+use lib.ListN.{length, take, drop, replicate, length-replicate}
+use lib.Seq.{take-at}
+use Rattle.timetable.specs.File.{stops, connections}
+use Rattle.timetable.specs.Check.{maxStops, maxConnections}
+use Rattle.model.specs.Least.{none}
+use Rattle.model.specs.Notices.{rowsOf}
+use Rattle.model.specs.Network.{Network}
+use Rattle.model.specs.Times.{networkOf}
+use Rattle.model.specs.Graph.{firstDeparture, times, graphOf}
+use Rattle.model.specs.Operations.{same, graphLength, graphFor}
+use Rattle.model.specs.Ready.{networkBy}
+use Rattle.model.proofs.Tab.{length-tab}
+use Rattle.model.proofs.GraphArea.{length-times}
+use Rattle.model.proofs.Ready.{graph-long}
+use Rattle.times.specs.Times.{Opened, EventsRoom}
+use Rattle.departures.specs.Listed.{Lists}
+use Rattle.area.specs.Area.{ListsRoom, Drawn}
+use Rattle.area.proofs.Splice.{part-length, front-taken, rest-is}
+
+-- a part lent of an array of m numbers
+own-part : (k m v : ℕ) → k ≤ m → length (midOf 0 (k - 0) (replicate m v)) ≡ k
+own-part k m v h = part-length (replicate m v) 0 k k (omega arith) (simp length-replicate h)
+
+module _ (f : List ℕ) (s n : ℕ) (o : Opened f s n) where
+  -- an accepted timetable's numbers fit the arrays that the code owns
+  pub events-room : EventsRoom n (replicate {A = ℕ} (2 * maxConnections) 0) (replicate {A = ℕ} maxConnections 0) (replicate {A = ℕ} maxConnections 0)
+  events-room =
+      let few : n ≤ maxConnections = omega (arith, o .timetable .few, o .connections) in
+      record {
+        events-long = simp length-replicate (omega arith);
+        starts-long = simp length-replicate (omega arith);
+        ends-long = simp length-replicate (omega arith);
+      }
+
+  pub lists-room : (order : List ℕ) → n + n ≤ length order
+      → ListsRoom s n order (midOf 0 (s - 0) (replicate {A = ℕ} maxStops none)) (midOf 0 (n - 0) (replicate {A = ℕ} maxConnections none)) (midOf 0 (n - 0) (replicate {A = ℕ} maxConnections none))
+  lists-room order h =
+      let few : n ≤ maxConnections = omega (arith, o .timetable .few, o .connections) in
+      record {
+        order-long = h;
+        firsts-long = own-part s maxStops none (omega (arith, o .timetable .few-stops, o .stops));
+        waits-long = own-part n maxConnections none few;
+        changes-long = own-part n maxConnections none few;
+      }
+
+  -- the graph area's length by the counts
+  length-is : 4 * n + s ≡ graphLength f
+  length-is = rw (o .connections, o .stops)
+
+  module _ (notices : List ℕ) where
+    -- times at the front, then the departure lists
+    pub drawn-by : (graph₀ graph order firsts waits changes : List ℕ) → graph₀ ≡ times (networkBy f notices) n ++ drop (2 * n) graph₀
+        → Lists (networkBy f notices) order firsts waits changes
+        → graph ≡ take (2 * n) graph₀ ++ (waits ++ changes ++ firsts) ++ drop (4 * n + length firsts) graph₀
+        → Drawn f notices graph₀ graph order
+    unfolding networkOf graphOf
+    drawn-by graph₀ graph order firsts waits changes front lists put =
+        let net : Network = networkBy f notices in
+        let front′ : take (2 * n) graph₀ ≡ times net n = front-taken (times net n) graph₀ graph₀ (2 * n) (length-times net n) front in
+        let long : 4 * n + length firsts ≡ graphLength f =
+        omega (arith, length-is, o .stops, ap length (lists .first-departures), length-tab (firstDeparture net) (stops f)) in
+        record {
+          graph-is = put
+              ∙ rw (long, front′, lists .waiting-entries, lists .transfer-entries, lists .first-departures, o .connections) (simp append-assoc);
+          ordered = lists .ordered;
+        }
+
+    -- over an area to whose front the times were put
+    pub drawn-over : (graph₀ graph₁ graph order : List ℕ) → graph₁ ≡ times (networkBy f notices) n ++ drop (2 * n) graph₀ → Drawn f notices graph₁ graph order
+        → Drawn f notices graph₀ graph order
+    drawn-over graph₀ graph₁ graph order front d =
+        let net : Network = networkBy f notices in
+        record {
+          graph-is = d .graph-is
+              ∙ ap (λ (r : List ℕ). graphFor f (rowsOf notices) ++ r)
+              (rest-is (times net n) graph₀ graph₁ (2 * n) (length-times net n) front (graphLength f) (omega (arith, length-is)));
+          ordered = d .ordered;
+        }
+
+    -- the front of an area compared with that of the area drawn
+    pub compared : (graph want₀ want order : List ℕ) → Drawn f notices want₀ want order
+        → same (midOf 0 (4 * n + s - 0) graph) (midOf 0 (4 * n + s - 0) want) ≡ same (take (graphLength f) graph) (graphFor f (rowsOf notices))
+    compared graph want₀ want order d =
+        rw (sub-zero, length-is, d .graph-is, take-at (graphFor f (rowsOf notices)) (drop (graphLength f) want₀) (graphLength f) (graph-long f (rowsOf notices)))

@@ -1,0 +1,3 @@
+pub mod Splice
+pub mod Listing
+pub mod Drawing
