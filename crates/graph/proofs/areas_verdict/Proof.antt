@@ -1,0 +1,44 @@
+-- `graph::areas_verdict` meets its contract. Assumes nothing.
+use mathlib.Core.Path.{sym, _∙_}
+use native.Mathlib.Omega.{arith}
+use Rattle.timetable.proofs.Order.{or-passed}
+use borrow.Author.Needs.{needs}
+use Rattle.graph.proofs.areas_verdict.Statement.{statement}
+use Rattle.graph.proofs.areas_verdict.Tie as tie
+
+lengths-verdict-requires : tie.Need-lengths-verdict-requires
+lengths-verdict-requires c κs = search needs
+
+enum-known-verdict : tie.Need-enum-known-verdict
+enum-known-verdict c = search needs
+
+returns : tie.Need-returns
+returns c = rw (← (c .before .before .before .lengths-verdict .ensures), c .before .verdict .given .1)
+
+enum-told : tie.Need-enum-told
+enum-told c = search needs
+
+slice-aggregate-contents-verdict : tie.Need-slice-aggregate-contents-verdict
+slice-aggregate-contents-verdict c = search needs
+
+contents-verdict-requires : tie.Need-contents-verdict-requires
+contents-verdict-requires c κs =
+    let l = c .before .before .before in
+    let t = l .before .before .before .before .pre in
+    let few = t .few in
+    (t, sym (l .lengths-verdict .ensures) ∙ c .before .enum-told .given .1, omega arith)
+
+returns-2 : tie.Need-returns-2
+returns-2 c = rw (← (c .before .before .before .before .before .lengths-verdict .ensures), c .before .before .before .enum-told .given .1, or-passed) (c .before .contents-verdict .ensures .0)
+
+pub areas-verdict-spec : {M : Type 1} → statement M
+areas-verdict-spec =
+    tie.close
+    (tie.spec
+    lengths-verdict-requires
+    enum-known-verdict
+    returns
+    enum-told
+    slice-aggregate-contents-verdict
+    contents-verdict-requires
+    returns-2)

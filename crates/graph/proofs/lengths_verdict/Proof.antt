@@ -1,0 +1,57 @@
+-- `graph::lengths_verdict` meets its contract. Assumes nothing.
+use native.Mathlib.Omega.{arith}
+use borrow.Author.Tests.{lt-ltb, le-ltb}
+use lib.ListN.{length}
+use Rattle.model.specs.Notices.{noticesLength}
+use Rattle.model.specs.Operations.{graphLength, lengthsVerdict}
+use borrow.Author.Needs.{needs}
+use Rattle.graph.proofs.lengths_verdict.Statement.{statement}
+use Rattle.graph.proofs.lengths_verdict.Tie as tie
+
+returns : tie.Need-returns
+unfolding lengthsVerdict
+returns c = rw (lt-ltb (length (c .before .before .before .before .args .notices .now)) noticesLength (omega arith))
+
+stops-requires : tie.Need-stops-requires
+stops-requires c κs = search needs
+
+cast-s : tie.Need-cast-s
+cast-s c = search needs
+
+connections-requires : tie.Need-connections-requires
+connections-requires c κs = search needs
+
+cast-n : tie.Need-cast-n
+cast-n c = search needs
+
+mul-if2 : tie.Need-mul-if2
+mul-if2 c = search needs
+
+add-if2 : tie.Need-add-if2
+add-if2 c = search needs
+
+returns-2 : tie.Need-returns-2
+unfolding lengthsVerdict
+returns-2 c =
+    let a = c .before .before .before .before .before .before .before .args in
+    rw (le-ltb (length (a .notices .now)) noticesLength (omega arith), lt-ltb (length (a .graph .now)) (graphLength (a .file .now)) (omega arith))
+
+returns-3 : tie.Need-returns-3
+unfolding lengthsVerdict
+returns-3 c =
+    let a = c .before .before .before .before .before .before .before .args in
+    rw (le-ltb (length (a .notices .now)) noticesLength (omega arith), le-ltb (length (a .graph .now)) (graphLength (a .file .now)) (omega arith))
+
+pub lengths-verdict-spec : {M : Type 1} → statement M
+lengths-verdict-spec =
+    tie.close
+    (tie.spec
+    returns
+    stops-requires
+    cast-s
+    connections-requires
+    cast-n
+    mul-if2
+    add-if2
+    returns-2
+    returns-3)

@@ -1,0 +1,279 @@
+// The operations that write: building, posting and withdrawing, with the checks of both areas.
+ghost use mathlib.Core.Path.{_≡_};
+ghost use mathlib.Core.List.{[], _∷_, _++_};
+ghost use Prim.Native.Nat.{ℕ, _+_, _≤_};
+ghost use lib.ListN.{length, drop};
+ghost use Rattle.timetable.specs.Answers.{refused, firstRefusal};
+ghost use Rattle.timetable.specs.File.{connections};
+ghost use Rattle.timetable.specs.Accepted.{Timetable};
+ghost use Rattle.timetable.specs.Check.{told as countsTold};
+ghost use Rattle.timetable.specs.declared.Verdict.the-variants.{Passed};
+ghost use Rattle.model.specs.Notices.{notice, rowsOf, entered, struck};
+ghost use Rattle.model.specs.Order.{Ordered};
+ghost use Rattle.model.specs.Operations.{graphLength, graphFor, lengthsVerdict, contentsVerdict, outcome, built, posted, withdrawn};
+ghost use Rattle.model.specs.Ready.{networkBy, Ready};
+ghost use Rattle.notices.specs.Kept.{Kept};
+ghost use Rattle.times.specs.Times.{Opened, Standing};
+ghost use Rattle.graph.specs.Answers.{told};
+ghost use Rattle.graph.specs.Verdicts.{postingVerdict, withdrawalVerdict};
+ghost use Rattle.graph.specs.Written.{Written};
+use timetable::Checked;
+use timetable::Verdict;
+
+// No notice has this number.
+const NO_NUMBER: u16 = 0;
+
+// How many notices may stand: `room`.
+const ROOM: u16 = 200;
+
+// The notice area's stated length: `noticesLength`.
+const NOTICES_LENGTH: usize = 601;
+
+// The shortest and the longest delay of a posting: `leastDelay` and `mostPosted`.
+const LEAST_DELAY: u16 = 1;
+
+const MOST_POSTED: u16 = 1440;
+
+// The answer of a posting or a withdrawal: the notice's number, or the refusal's number and place.
+pub enum Noted {
+    Accepted(u16),
+    Refused(u16, u16),
+}
+
+// Refusals 21 and 22.
+pub fn lengths_verdict(file: &[u8], notices: &[u16], graph: &[u16]) -> Verdict
+    requires { ⌜ Timetable (now file) ⌝ }
+    ensures { λ r. ⌜ r ≡ lengthsVerdict (now (file .entry)) (now (notices .entry)) (now (graph .entry)) ⌝ }
+{
+    if notices.len() < NOTICES_LENGTH {
+        return Verdict::Refused(21, 0);
+    }
+    let s = timetable::stops(file) as usize;
+    let n = timetable::connections(file) as usize;
+    if graph.len() < 4 * n + s {
+        return Verdict::Refused(22, 0);
+    }
+    Verdict::Passed
+}
+
+// Refusals 23 and 24; where they pass, the connections in the order of departure stand in `order`.
+pub fn contents_verdict(file: &[u8], notices: &[u16], graph: &[u16], order: &mut [u16]) -> Verdict
+    requires { ⌜ Timetable (now file) × (lengthsVerdict (now file) (now notices) (now graph) ≡ Passed) × (connections (now file) + connections (now file) ≤ length (now order)) ⌝ }
+    ensures { λ r. ⌜ (r ≡ contentsVerdict (now (file .entry)) (now (notices .entry)) (now (graph .entry))) × (r ≡ Passed → Ordered (networkBy (now (file .entry)) (now (notices .entry)) .departure) (connections (now (file .entry))) (connections (now (file .entry)) + connections (now (file .entry))) (now (order .exit))) ⌝ }
+{
+    let stops = timetable::stops(file) as usize;
+    let connections = timetable::connections(file);
+    let verdict = notices::check_rows(notices, connections);
+    match verdict {
+        Verdict::Refused(number, place) => {
+            return Verdict::Refused(number, place);
+        }
+        Verdict::Passed => {}
+    }
+    if area::is_graph(file, stops, connections as usize, notices, graph, order) {
+        return Verdict::Passed;
+    }
+    Verdict::Refused(24, 0)
+}
+
+// Refusals 21 to 24.
+pub fn areas_verdict(file: &[u8], notices: &[u16], graph: &[u16]) -> Verdict
+    requires { ⌜ Timetable (now file) ⌝ }
+    ensures { λ r. ⌜ r ≡ firstRefusal (lengthsVerdict (now (file .entry)) (now (notices .entry)) (now (graph .entry)) ∷ contentsVerdict (now (file .entry)) (now (notices .entry)) (now (graph .entry)) ∷ []) ⌝ }
+{
+    let verdict = lengths_verdict(file, notices, graph);
+    match verdict {
+        Verdict::Refused(number, place) => {
+            return Verdict::Refused(number, place);
+        }
+        Verdict::Passed => {}
+    }
+    let mut order = [65535u16; 4000];
+    contents_verdict(file, notices, graph, &mut order)
+}
+
+// Refusals 12, 13, 14, 25 and 26 of a posting, by the notices that stand.
+fn posting_verdict(notices: &[u16], n: u16, number: u16, connection: u16, delay: u16) -> Verdict
+    requires { ⌜ Kept (now notices) ⌝ }
+    ensures { λ r. ⌜ r ≡ postingVerdict n (rowsOf (now (notices .entry))) number connection delay ⌝ }
+{
+    if number == NO_NUMBER {
+        return Verdict::Refused(12, 0);
+    }
+    if n <= connection {
+        return Verdict::Refused(13, 0);
+    }
+    if delay < LEAST_DELAY {
+        return Verdict::Refused(14, 0);
+    }
+    if MOST_POSTED < delay {
+        return Verdict::Refused(14, 0);
+    }
+    if notices::is_standing(notices, number) {
+        return Verdict::Refused(25, 0);
+    }
+    if ROOM <= notices[0] {
+        return Verdict::Refused(26, 0);
+    }
+    Verdict::Passed
+}
+
+// Refusals 12 and 27 of a withdrawal, by the notices that stand.
+fn withdrawal_verdict(notices: &[u16], number: u16) -> Verdict
+    requires { ⌜ Kept (now notices) ⌝ }
+    ensures { λ r. ⌜ r ≡ withdrawalVerdict (rowsOf (now (notices .entry))) number ⌝ }
+{
+    if number == NO_NUMBER {
+        return Verdict::Refused(12, 0);
+    }
+    if !notices::is_standing(notices, number) {
+        return Verdict::Refused(27, 0);
+    }
+    Verdict::Passed
+}
+
+// The graph with the notices that stand.
+fn draw(file: &[u8], stops: usize, n: usize, notices: &[u16], graph: &mut [u16])
+    requires { ⌜ Opened (now file) stops n × Standing (now file) (now notices) × (graphLength (now file) ≤ length (now graph)) ⌝ }
+    ensures { λ _. ⌜ now (graph .exit) ≡ graphFor (now (file .entry)) (rowsOf (now (notices .entry))) ++ drop (graphLength (now (file .entry))) (now (graph .entry)) ⌝ }
+{
+    let mut order = [65535u16; 4000];
+    area::fill_graph(file, stops, n, notices, graph, &mut order);
+}
+
+// No notice stands, and the graph says so.
+fn clear_all(file: &[u8], stops: usize, n: usize, notices: &mut [u16], graph: &mut [u16])
+    requires { ⌜ Opened (now file) stops n × (lengthsVerdict (now file) (now notices) (now graph) ≡ Passed) ⌝ }
+    ensures { λ _. ⌜ Written (now (file .entry)) (now (notices .entry)) (now (graph .entry)) [] (now (notices .exit)) (now (graph .exit)) ⌝ }
+{
+    notices::clear_rows(notices);
+    draw(file, stops, n, notices, graph);
+}
+
+// A notice entered, and the graph with it.
+fn enter_all(
+    file: &[u8],
+    stops: usize,
+    n: usize,
+    notices: &mut [u16],
+    graph: &mut [u16],
+    number: u16,
+    connection: u16,
+    delay: u16,
+)
+    requires { ⌜ Opened (now file) stops n × Ready (now file) (now notices) (now graph) × (postingVerdict (connections (now file)) (rowsOf (now notices)) number connection delay ≡ Passed) ⌝ }
+    ensures { λ _. ⌜ Written (now (file .entry)) (now (notices .entry)) (now (graph .entry)) (entered (notice number connection delay) (rowsOf (now (notices .entry)))) (now (notices .exit)) (now (graph .exit)) ⌝ }
+{
+    notices::enter(notices, number, connection, delay);
+    draw(file, stops, n, notices, graph);
+}
+
+// A notice struck out, and the graph without it.
+fn strike_all(
+    file: &[u8],
+    stops: usize,
+    n: usize,
+    notices: &mut [u16],
+    graph: &mut [u16],
+    number: u16,
+)
+    requires { ⌜ Opened (now file) stops n × Ready (now file) (now notices) (now graph) × (withdrawalVerdict (rowsOf (now notices)) number ≡ Passed) ⌝ }
+    ensures { λ _. ⌜ Written (now (file .entry)) (now (notices .entry)) (now (graph .entry)) (struck number (rowsOf (now (notices .entry)))) (now (notices .exit)) (now (graph .exit)) ⌝ }
+{
+    notices::strike(notices, number);
+    draw(file, stops, n, notices, graph);
+}
+
+// The refusal of a file, as the answer of a posting or a withdrawal.
+fn refused(checked: Checked) -> Noted
+    ensures { λ r. ⌜ ((n p : ℕ) → countsTold checked ≡ refused n p → told r ≡ refused n p) ⌝ }
+{
+    match checked {
+        Checked::Accepted(_, _) => Noted::Refused(0, 0),
+        Checked::Refused(number, place) => Noted::Refused(number, place),
+    }
+}
+
+// An empty notice area and the graph without notices.
+pub fn build(file: &[u8], notices: &mut [u16], graph: &mut [u16]) -> Checked
+    ensures { λ r. ⌜ outcome (countsTold r) (now (notices .exit)) (now (graph .exit)) ≡ built (now (file .entry)) (now (notices .entry)) (now (graph .entry)) ⌝ }
+{
+    let checked = timetable::check(file);
+    let Checked::Accepted(stops, connections) = checked else {
+        return checked;
+    };
+    let verdict = lengths_verdict(file, notices, graph);
+    match verdict {
+        Verdict::Refused(number, place) => {
+            return Checked::Refused(number, place);
+        }
+        Verdict::Passed => {}
+    }
+    let s = stops as usize;
+    let n = connections as usize;
+    clear_all(file, s, n, notices, graph);
+    Checked::Accepted(stops, connections)
+}
+
+// A notice posted.
+pub fn post(
+    file: &[u8],
+    notices: &mut [u16],
+    graph: &mut [u16],
+    number: u16,
+    connection: u16,
+    delay: u16,
+) -> Noted
+    ensures { λ r. ⌜ outcome (told r) (now (notices .exit)) (now (graph .exit)) ≡ posted (now (file .entry)) (now (notices .entry)) (now (graph .entry)) number connection delay ⌝ }
+{
+    let checked = timetable::check(file);
+    let Checked::Accepted(stops, connections) = checked else {
+        return refused(checked);
+    };
+    let areas = areas_verdict(file, notices, graph);
+    match areas {
+        Verdict::Refused(refusal, place) => {
+            return Noted::Refused(refusal, place);
+        }
+        Verdict::Passed => {}
+    }
+    let verdict = posting_verdict(notices, connections, number, connection, delay);
+    match verdict {
+        Verdict::Refused(refusal, place) => {
+            return Noted::Refused(refusal, place);
+        }
+        Verdict::Passed => {}
+    }
+    let s = stops as usize;
+    let n = connections as usize;
+    enter_all(file, s, n, notices, graph, number, connection, delay);
+    Noted::Accepted(number)
+}
+
+// A notice withdrawn.
+pub fn withdraw(file: &[u8], notices: &mut [u16], graph: &mut [u16], number: u16) -> Noted
+    ensures { λ r. ⌜ outcome (told r) (now (notices .exit)) (now (graph .exit)) ≡ withdrawn (now (file .entry)) (now (notices .entry)) (now (graph .entry)) number ⌝ }
+{
+    let checked = timetable::check(file);
+    let Checked::Accepted(stops, connections) = checked else {
+        return refused(checked);
+    };
+    let areas = areas_verdict(file, notices, graph);
+    match areas {
+        Verdict::Refused(refusal, place) => {
+            return Noted::Refused(refusal, place);
+        }
+        Verdict::Passed => {}
+    }
+    let verdict = withdrawal_verdict(notices, number);
+    match verdict {
+        Verdict::Refused(refusal, place) => {
+            return Noted::Refused(refusal, place);
+        }
+        Verdict::Passed => {}
+    }
+    let s = stops as usize;
+    let n = connections as usize;
+    strike_all(file, s, n, notices, graph, number);
+    Noted::Accepted(number)
+}

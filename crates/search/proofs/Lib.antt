@@ -1,0 +1,4 @@
+pub mod Signed
+pub mod Verdicts
+pub mod Enquiries
+pub mod Margins

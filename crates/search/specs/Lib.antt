@@ -1,0 +1,4 @@
+pub mod Verdicts
+pub mod Given
+pub mod Answered
+pub mod Margin
