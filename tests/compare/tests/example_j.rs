@@ -1,0 +1,261 @@
+//! Example J: the seven commands, the instances, and the limits, on both implementations.
+
+use compare::harness::{Side, FAST, PLAIN};
+
+const CHANGE: [u16; 3] = [4, 5, 3];
+const RIDES: [[u16; 5]; 5] = [
+    [0, 0, 1, 600, 620],
+    [0, 1, 2, 625, 640],
+    [1, 1, 2, 622, 650],
+    [1, 2, 0, 655, 690],
+    [2, 1, 2, 630, 642],
+];
+
+fn file(change: &[u16], rides: &[[u16; 5]]) -> Vec<u8> {
+    let mut out = b"TTG".to_vec();
+    let head = [1, change.len() as u16, rides.len() as u16];
+    for n in head.iter().chain(change).chain(rides.iter().flatten()) {
+        out.extend(n.to_le_bytes());
+    }
+    out
+}
+
+fn nums(bytes: &[u8]) -> Vec<u16> {
+    bytes
+        .chunks_exact(2)
+        .map(|b| u16::from_le_bytes([b[0], b[1]]))
+        .collect()
+}
+
+struct Desk {
+    side: &'static Side,
+    file: Vec<u8>,
+    notices: Vec<u8>,
+    graph: Vec<u8>,
+    work: Vec<u8>,
+    journey: Vec<u8>,
+    opening: String,
+}
+
+impl Desk {
+    fn open(side: &'static Side, change: &[u16], rides: &[[u16; 5]]) -> Desk {
+        let (s, c) = (change.len(), rides.len());
+        let mut d = Desk {
+            side,
+            file: file(change, rides),
+            notices: vec![0xaa; 1202],
+            graph: vec![0xaa; 8 * c + 2 * s],
+            work: vec![0xaa; 2 * c],
+            journey: vec![0xaa; 2 * c],
+            opening: String::new(),
+        };
+        let a = (side.build)(&d.file, &mut d.notices, &mut d.graph);
+        assert_eq!(a, (side.check)(&d.file));
+        d.opening = line(a as i64, |v| {
+            format!("stops {} rides {}", v % 65536, v / 65536)
+        });
+        d
+    }
+
+    fn j(side: &'static Side) -> Desk {
+        Desk::open(side, &CHANGE, &RIDES)
+    }
+
+    fn p(&mut self, number: u16, ride: u16, delay: u16) -> String {
+        let (f, n, g) = (&self.file, &mut self.notices, &mut self.graph);
+        let a = (self.side.post)(f, n, g, number, ride, delay);
+        line(a as i64, |v| format!("posted {v}"))
+    }
+
+    fn w(&mut self, number: u16) -> String {
+        let (f, n, g) = (&self.file, &mut self.notices, &mut self.graph);
+        line((self.side.withdraw)(f, n, g, number) as i64, |v| {
+            format!("withdrawn {v}")
+        })
+    }
+
+    fn q(&mut self, from: u16, to: u16, time: u16) -> String {
+        let (f, n, g) = (&self.file, &self.notices, &self.graph);
+        let (w, l) = (&mut self.work, &mut self.journey);
+        let a = (self.side.enquire)(f, n, g, w, l, from, to, time);
+        line(a as i64, |v| {
+            let rides = nums(&self.journey)[..(v / 65536) as usize].to_vec();
+            let list: Vec<String> = rides.iter().map(|r| format!(" {r}")).collect();
+            format!("arrives {} by{}", v % 65536, list.concat())
+        })
+    }
+
+    fn m(&self, ride: u16, next: u16) -> String {
+        let a = (self.side.margin)(&self.file, &self.notices, &self.graph, ride, next);
+        line(a, |v| format!("margin {v}"))
+    }
+
+    /// Departure and arrival in force.
+    fn times(&self, ride: usize) -> [u16; 2] {
+        let g = nums(&self.graph);
+        [g[2 * ride], g[2 * ride + 1]]
+    }
+}
+
+fn line(answer: i64, accepted: impl Fn(i64) -> String) -> String {
+    match answer & 65535 {
+        0 => accepted(answer >> 16),
+        number => format!("no {number} at {}", answer >> 16),
+    }
+}
+
+fn both(test: impl Fn(&'static Side)) {
+    test(&FAST);
+    test(&PLAIN);
+}
+
+#[test]
+fn seven_commands() {
+    both(|side| {
+        let mut d = Desk::j(side);
+        let lines = [
+            d.opening.clone(),
+            d.q(0, 2, 595),
+            d.p(7, 1, 10),
+            d.q(0, 2, 595),
+            d.p(3, 0, 6),
+            d.q(0, 2, 595),
+            d.q(0, 2, 607),
+            d.m(0, 4),
+        ];
+        let expected = "stops 3 rides 5\narrives 640 by 0 1\nposted 7\narrives 642 by 0 4\n\
+                        posted 3\narrives 650 by 0 1\nno 30 at 0\nmargin -1";
+        assert_eq!(lines.join("\n"), expected);
+        assert_eq!(nums(&d.notices)[..9], [2, 3, 0, 6, 7, 1, 10, 0, 0]);
+        assert_eq!(d.w(7), "withdrawn 7");
+        assert_eq!(d.w(7), "no 27 at 0");
+        assert_eq!(nums(&d.notices)[..6], [1, 3, 0, 6, 0, 0]);
+    });
+}
+
+#[test]
+fn graph_without_notices() {
+    both(|side| {
+        let expected = [
+            600, 620, 625, 640, 622, 650, 655, 690, 630, 642, // times
+            65535, 4, 1, 65535, 65535, // waiting
+            1, 3, 3, 65535, 3, // transfers
+            0, 2, 3, // first departures
+        ];
+        let d = Desk::j(side);
+        assert_eq!(nums(&d.graph), expected);
+        assert_eq!(d.notices, vec![0; 1202]);
+    });
+}
+
+#[test]
+fn work_area() {
+    both(|side| {
+        let mut d = Desk::j(side);
+        assert_eq!(d.q(0, 2, 595), "arrives 640 by 0 1");
+        assert_eq!(nums(&d.work), [0, 0, 65535, 1, 0]);
+        assert_eq!(nums(&d.journey), [0, 1, 0xaaaa, 0xaaaa, 0xaaaa]);
+    });
+}
+
+#[test]
+fn delay_within_the_stay_is_used_up() {
+    both(|side| {
+        let mut d = Desk::j(side);
+        assert_eq!(d.p(1, 0, 5), "posted 1");
+        assert_eq!(d.times(1)[0], 625);
+        let mut d = Desk::j(side);
+        assert_eq!(d.p(1, 0, 6), "posted 1");
+        assert_eq!(d.times(1), [626, 641]);
+    });
+}
+
+#[test]
+fn largest_notice_decides() {
+    both(|side| {
+        for order in [[(1, 6), (2, 20)], [(2, 20), (1, 6)]] {
+            let mut d = Desk::j(side);
+            for (number, delay) in order {
+                assert_eq!(d.p(number, 0, delay), format!("posted {number}"));
+            }
+            assert_eq!(d.times(0)[0], 620);
+            assert_eq!(d.w(2), "withdrawn 2");
+            assert_eq!(d.times(0)[0], 606);
+        }
+    });
+}
+
+#[test]
+fn last_minute_and_too_late() {
+    both(|side| {
+        let mut d = Desk::j(side);
+        assert_eq!(d.q(0, 2, 600), "arrives 640 by 0 1");
+        assert_eq!(d.q(0, 2, 601), "no 30 at 0");
+        assert_eq!(nums(&d.work), [65535; 5]);
+    });
+}
+
+#[test]
+fn empty_journey() {
+    both(|side| {
+        let mut d = Desk::j(side);
+        assert_eq!(d.q(1, 1, 700), "arrives 700 by");
+        assert_eq!(nums(&d.work), [65535; 5]);
+        assert_eq!(d.journey, [0xaa; 10]);
+        assert_eq!(d.q(1, 1, 600), "arrives 600 by");
+        assert_eq!(nums(&d.work), [65535, 1, 2, 1, 4]);
+    });
+}
+
+#[test]
+fn limits() {
+    both(|side| {
+        assert_eq!(
+            Desk::open(side, &[4, 60, 3], &RIDES).opening,
+            "stops 3 rides 5"
+        );
+        assert_eq!(Desk::open(side, &[4, 61, 3], &RIDES).opening, "no 7 at 1");
+        let mut rides = RIDES;
+        rides[4][4] = 4319;
+        assert_eq!(Desk::open(side, &CHANGE, &rides).opening, "stops 3 rides 5");
+        rides[4][4] = 4320;
+        assert_eq!(Desk::open(side, &CHANGE, &rides).opening, "no 10 at 4");
+        let mut d = Desk::j(side);
+        assert_eq!(d.p(1, 0, 1440), "posted 1");
+        assert_eq!(d.p(2, 0, 1441), "no 14 at 0");
+        let mut d = Desk::j(side);
+        for number in 1..=200 {
+            assert_eq!(d.p(number, number % 5, number), format!("posted {number}"));
+        }
+        assert_eq!(d.p(201, 0, 1), "no 26 at 0");
+        assert_eq!(d.p(200, 0, 1), "no 25 at 0");
+        assert_eq!(d.w(100), "withdrawn 100");
+        assert_eq!(d.p(201, 0, 1), "posted 201");
+        let mut d = Desk::open(side, &[0], &[]);
+        assert_eq!(d.opening, "stops 1 rides 0");
+        assert_eq!(nums(&d.graph), [65535]);
+        assert_eq!(d.q(0, 0, 5759), "arrives 5759 by");
+        assert_eq!(d.q(0, 0, 5760), "no 16 at 0");
+        assert_eq!(d.p(1, 0, 1), "no 13 at 0");
+        assert_eq!(d.m(0, 0), "no 13 at 0");
+    });
+}
+
+#[test]
+fn margin_at_both_ends() {
+    both(|side| {
+        // The earliest departure and the latest arrival with most change minutes.
+        let rides = [
+            [0, 1, 0, 0, 1],
+            [1, 0, 1, 4318, 4319],
+            [2, 0, 1, 4318, 4319],
+            [3, 1, 0, 0, 1],
+        ];
+        let mut d = Desk::open(side, &[0, 60], &rides);
+        assert_eq!(d.p(1, 1, 1440), "posted 1");
+        assert_eq!(d.m(1, 3), "margin -5819");
+        assert_eq!(d.m(0, 1), "margin 5757");
+        assert_eq!(d.m(0, 3), "no 17 at 0");
+        assert_eq!(d.m(3, 2), "margin 4317");
+    });
+}
