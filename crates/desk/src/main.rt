@@ -1,0 +1,4 @@
+// The desk program, run on the example.
+fn main() {
+    console::run();
+}

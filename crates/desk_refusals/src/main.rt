@@ -1,0 +1,4 @@
+// The desk program, run on every refusal that a command can get.
+fn main() {
+    console::run();
+}

@@ -1,0 +1,4 @@
+// The desk program, run on a file that is refused.
+fn main() {
+    console::run();
+}
