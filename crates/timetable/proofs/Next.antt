@@ -1,18 +1,29 @@
 -- A connection against the one before it, in the code's numbers: c and c - 1. Assumes nothing.
 use mathlib.Core.Path.{_≡_, refl}
+use mathlib.Core.Logic.{_⊎_, inl, inr, ⊎-elim}
 use mathlib.Core.Bool.{true, false, not, _||_}
 use mathlib.Core.List.{List}
-use Prim.Native.Nat.{ℕ, zero, suc, _+_, _-_, _<_}
-use native.Mathlib.Numerals.{add-one}
+use Prim.Native.Nat.{ℕ, zero, suc, _-_, _<_, _≤_}
 use native.Mathlib.Omega.{arith}
-use borrow.Author.Tests.{eq-eqb, ne-eqb}
+use borrow.Author.Tests.{lt-ltb, le-ltb, eq-eqb, ne-eqb}
 use lib.Dec.{ltb, eqb}
 use Rattle.timetable.specs.File.{trip, from, to, scheduledDeparture, scheduledArrival, staysAboard}
 use Rattle.timetable.specs.Check.{wrongTrip, wrongJoin}
-use Rattle.timetable.proofs.Tests.{not-both}
+use Rattle.timetable.proofs.Tests.{by-lt, not-both}
 
 one-back : (c : ℕ) → suc c - 1 ≡ c
 one-back c = omega arith
+
+-- neither the same nor one more
+step : (a b : ℕ) → b ≤ a → not (eqb a b || eqb a (suc b)) ≡ ltb 1 (a - b)
+step a b h = ⊎-elim (λ (l : 1 < a - b). more l) (λ (l : a - b ≤ 1). less l (by-lt b a)) (by-lt 1 (a - b))
+  where
+    more : 1 < a - b → not (eqb a b || eqb a (suc b)) ≡ ltb 1 (a - b)
+    more l = rw (lt-ltb 1 (a - b) l, ne-eqb a b (λ e. omega arith), ne-eqb a (suc b) (λ e. omega arith))
+
+    less : a - b ≤ 1 → (b < a) ⊎ (a ≤ b) → not (eqb a b || eqb a (suc b)) ≡ ltb 1 (a - b)
+    less l (inl k) = rw (le-ltb 1 (a - b) l, eq-eqb a (suc b) (omega arith), ne-eqb a b (λ e. omega arith))
+    less l (inr k) = rw (le-ltb 1 (a - b) l, eq-eqb a b (omega arith))
 
 module _ (f : List ℕ) where
   -- to stay aboard is to have the trip of the one before
@@ -21,16 +32,18 @@ module _ (f : List ℕ) where
   stays-next zero h = absurd (omega arith)
   stays-next (suc c) h = rw one-back
 
-  -- the trip of the connection before is right, and of the others only one more
-  pub trip-same : (c : ℕ) → 0 < c → trip f c ≡ trip f (c - 1) → wrongTrip f c ≡ false
+  -- a lower trip is wrong, and of the others those that are more than one higher
+  pub trip-lower : (c : ℕ) → 0 < c → trip f c < trip f (c - 1) → wrongTrip f c ≡ true
   unfolding wrongTrip
-  trip-same zero h e = absurd (omega arith)
-  trip-same (suc c) h e = rw (eq-eqb _ _ (rw one-back at e))
+  trip-lower zero h l = absurd (omega arith)
+  trip-lower (suc c) h l =
+      let k : trip f (suc c) < trip f c = rw one-back at l in
+      rw (ne-eqb (trip f (suc c)) (trip f c) (λ e. omega arith), ne-eqb (trip f (suc c)) (suc (trip f c)) (λ e. omega arith))
 
-  pub trip-other : (c : ℕ) → 0 < c → (trip f c ≡ trip f (c - 1) → ⊥) → wrongTrip f c ≡ not (eqb (trip f c) (trip f (c - 1) + 1))
+  pub trip-higher : (c : ℕ) → 0 < c → trip f (c - 1) ≤ trip f c → wrongTrip f c ≡ ltb 1 (trip f c - trip f (c - 1))
   unfolding wrongTrip
-  trip-other zero h e = absurd (omega arith)
-  trip-other (suc c) h e = rw (one-back, add-one, ne-eqb _ _ (rw one-back at e))
+  trip-higher zero h l = absurd (omega arith)
+  trip-higher (suc c) h l = rw one-back (step (trip f (suc c)) (trip f c) (rw one-back at l))
 
   -- only a connection with one before it stays aboard
   pub aboard-later : (c : ℕ) → staysAboard f c ≡ true → 0 < c

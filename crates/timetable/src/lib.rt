@@ -182,10 +182,10 @@ fn wrong_trip(file: &[u8], stops: usize, c: usize) -> bool
         return own != 0;
     }
     let before = trip(file, stops, c - 1);
-    if own == before {
-        return false;
+    if own < before {
+        return true;
     }
-    own as u32 != before as u32 + 1
+    1 < own - before
 }
 
 // 10: departure before arrival, arrival within the timetable.
