@@ -1,27 +1,13 @@
-// The library's operations for C, over areas of bytes. An answer is number + 65536 * value: the number is 0 for an
-// accepted call, else the refusal's, with its place for a value.
+// The library's operations for C, over areas of bytes, with their answers as numbers.
 ghost use mathlib.Core.Path.{_≡_};
 ghost use Prim.Native.Nat.{_≤_, _/_, min};
 ghost use lib.ListN.{length, take};
 ghost use Rattle.numbers.specs.Numbers.{numbersOf, overBytes};
-ghost use Rattle.timetable.specs.Check.{maxConnections, checkedAnswer, told as countsTold};
+ghost use Rattle.timetable.specs.Check.{maxConnections, checkedAnswer};
 ghost use Rattle.model.specs.Notices.{noticesLength};
 ghost use Rattle.model.specs.Operations.{built, posted, withdrawn, enquired, margined};
-ghost use Rattle.graph.specs.Answers.{told as notedTold};
-ghost use Rattle.journeys.specs.Reading.{told as arrivalTold};
-ghost use Rattle.search.specs.Margin.{toldMargin};
-ghost use Rattle.panel.specs.Encoded.{pair, coded, codedCounts, codedArrival, codedMargin};
+ghost use Rattle.codes.specs.Encoded.{coded, codedCounts, codedArrival, codedMargin};
 ghost use Rattle.panel.specs.Fronts.{mostGraph, Holds};
-use graph::Noted;
-use journeys::Enquired;
-use search::Margined;
-use timetable::Checked;
-
-// How many values a number of 16 bits has.
-const NUMBER_SIZE: u64 = 65536;
-
-// The same, for signed minutes.
-const SIGNED_SIZE: i64 = 65536;
 
 // The notice area's stated length: `noticesLength`.
 const MOST_NOTICES: usize = 601;
@@ -31,53 +17,6 @@ const MOST_GRAPH: usize = 8500;
 
 // The most connections: `maxConnections`.
 const MOST_CONNECTIONS: usize = 2000;
-
-// An answer's number, and the two halves of its value.
-fn answer_of(number: u16, low: u16, high: u16) -> u64
-    ensures { λ r. ⌜ r ≡ pair number (pair low high) ⌝ }
-{
-    number as u64 + NUMBER_SIZE * (low as u64 + NUMBER_SIZE * high as u64)
-}
-
-// The answer of a check or a building.
-fn code_counts(checked: Checked) -> u64
-    ensures { λ r. ⌜ r ≡ codedCounts (countsTold checked) ⌝ }
-{
-    match checked {
-        Checked::Accepted(stops, connections) => answer_of(0, stops, connections),
-        Checked::Refused(number, place) => answer_of(number, place, 0),
-    }
-}
-
-// The answer of a posting or a withdrawal.
-fn code_noted(noted: Noted) -> u64
-    ensures { λ r. ⌜ r ≡ coded (notedTold noted) ⌝ }
-{
-    match noted {
-        Noted::Accepted(number) => answer_of(0, number, 0),
-        Noted::Refused(number, place) => answer_of(number, place, 0),
-    }
-}
-
-// The answer of an enquiry.
-fn code_arrival(enquired: Enquired) -> u64
-    ensures { λ r. ⌜ r ≡ codedArrival (arrivalTold enquired) ⌝ }
-{
-    match enquired {
-        Enquired::Arrives(time, connections) => answer_of(0, time, connections),
-        Enquired::Refused(number, place) => answer_of(number, place, 0),
-    }
-}
-
-// The answer of a margin.
-fn code_margin(margined: Margined) -> i64
-    ensures { λ r. ⌜ r ≡ codedMargin (toldMargin margined) ⌝ }
-{
-    match margined {
-        Margined::Minutes(minutes) => SIGNED_SIZE * minutes as i64,
-        Margined::Refused(number, place) => answer_of(number, place, 0) as i64,
-    }
-}
 
 // How many numbers the front of an area has.
 fn front_length(most: usize, bytes: &[u8]) -> usize
@@ -118,7 +57,7 @@ fn build_bytes(
     read_both(notices, graph, n, g);
     let checked = graph::build(file, n, g);
     write_both(n, g, notices, graph);
-    code_counts(checked)
+    codes::code_counts(checked)
 }
 
 // Posting on the fronts of both areas.
@@ -138,7 +77,7 @@ fn post_bytes(
     read_both(notices, graph, n, g);
     let noted = graph::post(file, n, g, number, ride, delay);
     write_both(n, g, notices, graph);
-    code_noted(noted)
+    codes::code_noted(noted)
 }
 
 // Withdrawing on the fronts of both areas.
@@ -156,7 +95,7 @@ fn withdraw_bytes(
     read_both(notices, graph, n, g);
     let noted = graph::withdraw(file, n, g, number);
     write_both(n, g, notices, graph);
-    code_noted(noted)
+    codes::code_noted(noted)
 }
 
 // Enquiring on the fronts of the four areas.
@@ -181,7 +120,7 @@ fn enquire_bytes(
     read_both(work, journey, w, j);
     let enquired = search::enquire(file, n, g, w, j, from, to, time);
     write_both(w, j, work, journey);
-    code_arrival(enquired)
+    codes::code_arrival(enquired)
 }
 
 // The margin by the fronts of both areas.
@@ -198,7 +137,7 @@ fn margin_bytes(
     ensures { λ r. ⌜ r ≡ codedMargin (margined (now (file .entry)) (numbersOf (now (notices .entry))) (numbersOf (now (graph .entry))) ride next) ⌝ }
 {
     read_both(notices, graph, n, g);
-    code_margin(search::margin(file, n, g, ride, next))
+    codes::code_margin(search::margin(file, n, g, ride, next))
 }
 
 // Checks a file.
@@ -206,7 +145,7 @@ fn margin_bytes(
 pub extern "C" fn ttg_check(file: &[u8]) -> u64
     ensures { λ r. ⌜ r ≡ codedCounts (checkedAnswer (now (file .entry))) ⌝ }
 {
-    code_counts(timetable::check(file))
+    codes::code_counts(timetable::check(file))
 }
 
 // An empty notice area and the graph without notices.

@@ -1,7 +1,7 @@
 -- `panel::build_bytes` meets its contract: building on the fronts leaves what building on the areas leaves.
 -- Assumes nothing.
 use mathlib.Core.Path.{_∙_, ap}
-use Rattle.panel.specs.Encoded.{codedCounts}
+use Rattle.codes.specs.Encoded.{codedCounts}
 use Rattle.panel.proofs.Ends.{built-fronted, ends}
 use borrow.Author.Needs.{needs}
 use Rattle.panel.proofs.build_bytes.Statement.{statement}

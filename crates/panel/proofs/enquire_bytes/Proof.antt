@@ -1,7 +1,7 @@
 -- `panel::enquire_bytes` meets its contract: enquiring on the fronts leaves what enquiring on the areas leaves.
 -- Assumes nothing.
 use mathlib.Core.Path.{_∙_, ap}
-use Rattle.panel.specs.Encoded.{codedArrival}
+use Rattle.codes.specs.Encoded.{codedArrival}
 use Rattle.panel.proofs.Ends.{enquiry-ends}
 use borrow.Author.Needs.{needs}
 use Rattle.panel.proofs.enquire_bytes.Statement.{statement}

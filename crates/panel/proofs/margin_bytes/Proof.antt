@@ -1,7 +1,7 @@
 -- `panel::margin_bytes` meets its contract: the margin by the fronts is that by the areas. Assumes nothing.
 use mathlib.Core.Path.{_∙_, ap}
 use mir.Facts.{toZ-ofZ}
-use Rattle.panel.specs.Encoded.{codedMargin}
+use Rattle.codes.specs.Encoded.{codedMargin}
 use Rattle.panel.proofs.Ends.{margin-ends}
 use borrow.Author.Needs.{needs}
 use Rattle.panel.proofs.margin_bytes.Statement.{statement}

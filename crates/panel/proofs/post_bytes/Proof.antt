@@ -1,7 +1,7 @@
 -- `panel::post_bytes` meets its contract: posting on the fronts leaves what posting on the areas leaves.
 -- Assumes nothing.
 use mathlib.Core.Path.{_∙_, ap}
-use Rattle.panel.specs.Encoded.{coded}
+use Rattle.codes.specs.Encoded.{coded}
 use Rattle.panel.proofs.Ends.{posted-fronted, ends}
 use borrow.Author.Needs.{needs}
 use Rattle.panel.proofs.post_bytes.Statement.{statement}

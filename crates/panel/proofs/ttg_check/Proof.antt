@@ -1,6 +1,6 @@
 -- `panel::ttg_check` meets its contract. Assumes nothing.
 use mathlib.Core.Path.{_∙_, ap}
-use Rattle.panel.specs.Encoded.{codedCounts}
+use Rattle.codes.specs.Encoded.{codedCounts}
 use borrow.Author.Needs.{needs}
 use Rattle.panel.proofs.ttg_check.Statement.{statement}
 use Rattle.panel.proofs.ttg_check.Tie as tie

@@ -1,7 +1,7 @@
 -- `panel::withdraw_bytes` meets its contract: withdrawing on the fronts leaves what withdrawing on the areas leaves.
 -- Assumes nothing.
 use mathlib.Core.Path.{_∙_, ap}
-use Rattle.panel.specs.Encoded.{coded}
+use Rattle.codes.specs.Encoded.{coded}
 use Rattle.panel.proofs.Ends.{withdrawn-fronted, ends}
 use borrow.Author.Needs.{needs}
 use Rattle.panel.proofs.withdraw_bytes.Statement.{statement}

@@ -8,7 +8,7 @@ use lib.Signed.{mag}
 use mir.Syntax.{w32, w64}
 use mir.Val.{SFits, toZ, ofZ}
 use mir.Facts.{toZ-ofZ}
-use Rattle.panel.specs.Encoded.{numberSize}
+use Rattle.codes.specs.Encoded.{numberSize}
 
 mag-neg : (n : ℕ) → mag (negℤ (pos n)) ≤ n
 mag-neg zero = omega arith

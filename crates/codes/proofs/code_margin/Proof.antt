@@ -1,4 +1,4 @@
--- `panel::code_margin` meets its contract: the minutes by proofs/Signed, a refusal by what `answer_of` gives.
+-- `codes::code_margin` meets its contract: the minutes by proofs/Signed, a refusal by what `answer_of` gives.
 -- Assumes nothing.
 use mathlib.Core.Path.{_∙_, ap}
 use Prim.Native.Nat.{ℕ}
@@ -6,10 +6,10 @@ use native.Mathlib.Omega.{arith}
 use lib.IntN.{pos}
 use mir.Syntax.{w64}
 use mir.Facts.{toZ-pos}
-use Rattle.panel.proofs.Signed.{wide-fits, scaled-fits, scaled}
+use Rattle.codes.proofs.Signed.{wide-fits, scaled-fits, scaled}
 use borrow.Author.Needs.{needs}
-use Rattle.panel.proofs.code_margin.Statement.{statement}
-use Rattle.panel.proofs.code_margin.Tie as tie
+use Rattle.codes.proofs.code_margin.Statement.{statement}
+use Rattle.codes.proofs.code_margin.Tie as tie
 
 enum-known-margined : tie.Need-enum-known-margined
 enum-known-margined c = search needs

@@ -1,8 +1,8 @@
--- `panel::code_arrival` meets its contract: each case of the answer by what `answer_of` gives. Assumes nothing.
+-- `codes::code_arrival` meets its contract: each case of the answer by what `answer_of` gives. Assumes nothing.
 use native.Mathlib.Omega.{arith}
 use borrow.Author.Needs.{needs}
-use Rattle.panel.proofs.code_arrival.Statement.{statement}
-use Rattle.panel.proofs.code_arrival.Tie as tie
+use Rattle.codes.proofs.code_arrival.Statement.{statement}
+use Rattle.codes.proofs.code_arrival.Tie as tie
 
 enum-known-enquired : tie.Need-enum-known-enquired
 enum-known-enquired c = search needs

@@ -1,8 +1,8 @@
--- `panel::code_counts` meets its contract: each case of the answer by what `answer_of` gives. Assumes nothing.
+-- `codes::code_counts` meets its contract: each case of the answer by what `answer_of` gives. Assumes nothing.
 use native.Mathlib.Omega.{arith}
 use borrow.Author.Needs.{needs}
-use Rattle.panel.proofs.code_counts.Statement.{statement}
-use Rattle.panel.proofs.code_counts.Tie as tie
+use Rattle.codes.proofs.code_counts.Statement.{statement}
+use Rattle.codes.proofs.code_counts.Tie as tie
 
 enum-known-checked : tie.Need-enum-known-checked
 enum-known-checked c = search needs

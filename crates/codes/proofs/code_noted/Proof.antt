@@ -1,8 +1,8 @@
--- `panel::code_noted` meets its contract: each case of the answer by what `answer_of` gives. Assumes nothing.
+-- `codes::code_noted` meets its contract: each case of the answer by what `answer_of` gives. Assumes nothing.
 use native.Mathlib.Omega.{arith}
 use borrow.Author.Needs.{needs}
-use Rattle.panel.proofs.code_noted.Statement.{statement}
-use Rattle.panel.proofs.code_noted.Tie as tie
+use Rattle.codes.proofs.code_noted.Statement.{statement}
+use Rattle.codes.proofs.code_noted.Tie as tie
 
 enum-known-noted : tie.Need-enum-known-noted
 enum-known-noted c = search needs

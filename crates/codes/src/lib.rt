@@ -1,0 +1,65 @@
+// The library's answers as numbers for C. An answer is number + 65536 * value: the number is 0 for an accepted call, else the
+// refusal's, with its place for a value.
+ghost use mathlib.Core.Path.{_≡_};
+ghost use Rattle.timetable.specs.Check.{told as countsTold};
+ghost use Rattle.graph.specs.Answers.{told as notedTold};
+ghost use Rattle.journeys.specs.Reading.{told as arrivalTold};
+ghost use Rattle.search.specs.Margin.{toldMargin};
+ghost use Rattle.codes.specs.Encoded.{pair, coded, codedCounts, codedArrival, codedMargin};
+use graph::Noted;
+use journeys::Enquired;
+use search::Margined;
+use timetable::Checked;
+
+// How many values a number of 16 bits has.
+const NUMBER_SIZE: u64 = 65536;
+
+// The same, for signed minutes.
+const SIGNED_SIZE: i64 = 65536;
+
+// An answer's number, and the two halves of its value.
+fn answer_of(number: u16, low: u16, high: u16) -> u64
+    ensures { λ r. ⌜ r ≡ pair number (pair low high) ⌝ }
+{
+    number as u64 + NUMBER_SIZE * (low as u64 + NUMBER_SIZE * high as u64)
+}
+
+// The answer of a check or a building.
+pub fn code_counts(checked: Checked) -> u64
+    ensures { λ r. ⌜ r ≡ codedCounts (countsTold checked) ⌝ }
+{
+    match checked {
+        Checked::Accepted(stops, connections) => answer_of(0, stops, connections),
+        Checked::Refused(number, place) => answer_of(number, place, 0),
+    }
+}
+
+// The answer of a posting or a withdrawal.
+pub fn code_noted(noted: Noted) -> u64
+    ensures { λ r. ⌜ r ≡ coded (notedTold noted) ⌝ }
+{
+    match noted {
+        Noted::Accepted(number) => answer_of(0, number, 0),
+        Noted::Refused(number, place) => answer_of(number, place, 0),
+    }
+}
+
+// The answer of an enquiry.
+pub fn code_arrival(enquired: Enquired) -> u64
+    ensures { λ r. ⌜ r ≡ codedArrival (arrivalTold enquired) ⌝ }
+{
+    match enquired {
+        Enquired::Arrives(time, connections) => answer_of(0, time, connections),
+        Enquired::Refused(number, place) => answer_of(number, place, 0),
+    }
+}
+
+// The answer of a margin.
+pub fn code_margin(margined: Margined) -> i64
+    ensures { λ r. ⌜ r ≡ codedMargin (toldMargin margined) ⌝ }
+{
+    match margined {
+        Margined::Minutes(minutes) => SIGNED_SIZE * minutes as i64,
+        Margined::Refused(number, place) => answer_of(number, place, 0) as i64,
+    }
+}
