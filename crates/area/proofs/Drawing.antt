@@ -21,7 +21,7 @@ use Rattle.model.proofs.GraphArea.{length-times}
 use Rattle.model.proofs.Ready.{graph-long}
 use Rattle.times.specs.Times.{Opened, EventsRoom}
 use Rattle.departures.specs.Listed.{Lists}
-use Rattle.area.specs.Area.{ListsRoom, Drawn}
+use Rattle.area.specs.Area.{ListsRoom}
 use Rattle.area.proofs.Splice.{part-length, front-taken, rest-is}
 
 -- a part lent of an array of m numbers
@@ -39,12 +39,10 @@ module _ (f : List ℕ) (s n : ℕ) (o : Opened f s n) where
         ends-long = simp length-replicate (omega arith);
       }
 
-  pub lists-room : (order : List ℕ) → n + n ≤ length order
-      → ListsRoom s n order (midOf 0 (s - 0) (replicate {A = ℕ} maxStops none)) (midOf 0 (n - 0) (replicate {A = ℕ} maxConnections none)) (midOf 0 (n - 0) (replicate {A = ℕ} maxConnections none))
-  lists-room order h =
+  pub lists-room : ListsRoom s n (midOf 0 (s - 0) (replicate {A = ℕ} maxStops none)) (midOf 0 (n - 0) (replicate {A = ℕ} maxConnections none)) (midOf 0 (n - 0) (replicate {A = ℕ} maxConnections none))
+  lists-room =
       let few : n ≤ maxConnections = omega (arith, o .timetable .few, o .connections) in
       record {
-        order-long = h;
         firsts-long = own-part s maxStops none (omega (arith, o .timetable .few-stops, o .stops));
         waits-long = own-part n maxConnections none few;
         changes-long = own-part n maxConnections none few;
@@ -56,36 +54,30 @@ module _ (f : List ℕ) (s n : ℕ) (o : Opened f s n) where
 
   module _ (notices : List ℕ) where
     -- times at the front, then the departure lists
-    pub drawn-by : (graph₀ graph order firsts waits changes : List ℕ) → graph₀ ≡ times (networkBy f notices) n ++ drop (2 * n) graph₀
-        → Lists (networkBy f notices) order firsts waits changes
+    pub drawn-by : (graph₀ graph firsts waits changes : List ℕ) → graph₀ ≡ times (networkBy f notices) n ++ drop (2 * n) graph₀
+        → Lists (networkBy f notices) firsts waits changes
         → graph ≡ take (2 * n) graph₀ ++ (waits ++ changes ++ firsts) ++ drop (4 * n + length firsts) graph₀
-        → Drawn f notices graph₀ graph order
+        → graph ≡ graphFor f (rowsOf notices) ++ drop (graphLength f) graph₀
     unfolding networkOf graphOf
-    drawn-by graph₀ graph order firsts waits changes front lists put =
+    drawn-by graph₀ graph firsts waits changes front lists put =
         let net : Network = networkBy f notices in
         let front′ : take (2 * n) graph₀ ≡ times net n = front-taken (times net n) graph₀ graph₀ (2 * n) (length-times net n) front in
         let long : 4 * n + length firsts ≡ graphLength f =
         omega (arith, length-is, o .stops, ap length (lists .first-departures), length-tab (firstDeparture net) (stops f)) in
-        record {
-          graph-is = put
-              ∙ rw (long, front′, lists .waiting-entries, lists .transfer-entries, lists .first-departures, o .connections) (simp append-assoc);
-          ordered = lists .ordered;
-        }
+        put ∙ rw (long, front′, lists .waiting-entries, lists .transfer-entries, lists .first-departures, o .connections) (simp append-assoc)
 
     -- over an area to whose front the times were put
-    pub drawn-over : (graph₀ graph₁ graph order : List ℕ) → graph₁ ≡ times (networkBy f notices) n ++ drop (2 * n) graph₀ → Drawn f notices graph₁ graph order
-        → Drawn f notices graph₀ graph order
-    drawn-over graph₀ graph₁ graph order front d =
+    pub drawn-over : (graph₀ graph₁ graph : List ℕ) → graph₁ ≡ times (networkBy f notices) n ++ drop (2 * n) graph₀
+        → graph ≡ graphFor f (rowsOf notices) ++ drop (graphLength f) graph₁
+        → graph ≡ graphFor f (rowsOf notices) ++ drop (graphLength f) graph₀
+    drawn-over graph₀ graph₁ graph front drawn =
         let net : Network = networkBy f notices in
-        record {
-          graph-is = d .graph-is
-              ∙ ap (λ (r : List ℕ). graphFor f (rowsOf notices) ++ r)
-              (rest-is (times net n) graph₀ graph₁ (2 * n) (length-times net n) front (graphLength f) (omega (arith, length-is)));
-          ordered = d .ordered;
-        }
+        drawn
+        ∙ ap (λ (r : List ℕ). graphFor f (rowsOf notices) ++ r)
+        (rest-is (times net n) graph₀ graph₁ (2 * n) (length-times net n) front (graphLength f) (omega (arith, length-is)))
 
     -- the front of an area compared with that of the area drawn
-    pub compared : (graph want₀ want order : List ℕ) → Drawn f notices want₀ want order
+    pub compared : (graph want₀ want : List ℕ) → want ≡ graphFor f (rowsOf notices) ++ drop (graphLength f) want₀
         → same (midOf 0 (4 * n + s - 0) graph) (midOf 0 (4 * n + s - 0) want) ≡ same (take (graphLength f) graph) (graphFor f (rowsOf notices))
-    compared graph want₀ want order d =
-        rw (sub-zero, length-is, d .graph-is, take-at (graphFor f (rowsOf notices)) (drop (graphLength f) want₀) (graphLength f) (graph-long f (rowsOf notices)))
+    compared graph want₀ want drawn =
+        rw (sub-zero, length-is, drawn, take-at (graphFor f (rowsOf notices)) (drop (graphLength f) want₀) (graphLength f) (graph-long f (rowsOf notices)))

@@ -1,3 +1,5 @@
 pub mod Splice
 pub mod Listing
 pub mod Drawing
+pub mod Comparing
+pub mod Certified

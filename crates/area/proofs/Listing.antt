@@ -12,7 +12,6 @@ use Rattle.model.specs.Network.{Network, Sound}
 use Rattle.model.specs.Notices.{rowsOf}
 use Rattle.model.specs.Times.{networkOf}
 use Rattle.model.specs.Graph.{times}
-use Rattle.model.specs.Order.{Ordered}
 use Rattle.model.specs.Ready.{networkBy}
 use Rattle.model.proofs.Times.{network-sound}
 use Rattle.model.proofs.Tests.{by-lt}
@@ -21,22 +20,6 @@ use Rattle.times.specs.Times.{Opened, Standing, Timed, Events}
 use Rattle.times.proofs.Timed.{departure-timed, arrival-timed, times-timed}
 use Rattle.departures.specs.Order.{minutes, Below}
 use Rattle.departures.specs.Listed.{listed, Lists}
-
--- an order by times that agree
-pub ordered-same : (time time′ : ℕ → ℕ) (n m : ℕ) (order : List ℕ) → ((c : ℕ) → c < n → time c ≡ time′ c) → Ordered time n m order → Ordered time′ n m order
-ordered-same time time′ n m order same o =
-    record {
-      place = o .place;
-      rises = λ e c h k l. o .rises e c h k (omega (arith, same e h, same c k));
-      within = o .within;
-      room = o .room;
-      slots = o .slots;
-    }
-
--- the same by another name of how many there are
-ordered-as : (time time′ : ℕ → ℕ) (n k : ℕ) (order : List ℕ) → n ≡ k → ((c : ℕ) → c < n → time c ≡ time′ c) → Ordered time n (n + n) order
-    → Ordered time′ k (k + k) order
-ordered-as time time′ n k order q same o = rw q at (ordered-same time time′ n (n + n) order same o)
 
 module _ (f : List ℕ) (s n : ℕ) (o : Opened f s n) where
   few : n ≤ maxConnections
@@ -94,16 +77,15 @@ module _ (f notices expected : List ℕ) (s n : ℕ) (o : Opened f s n) (k : Sta
         }
 
     -- so that the lists are the network's
-    pub lists-are : (m : ℕ) (order firsts waits changes : List ℕ) → m ≡ s → Lists (listed events starts ends n m) order firsts waits changes
-        → Lists (networkBy f notices) order firsts waits changes
+    pub lists-are : (m : ℕ) (firsts waits changes : List ℕ) → m ≡ s → Lists (listed events starts ends n m) firsts waits changes
+        → Lists (networkBy f notices) firsts waits changes
     unfolding networkOf
-    lists-are m order firsts waits changes q lists =
+    lists-are m firsts waits changes q lists =
         let net : Network = networkBy f notices in
         let net₀ : Network = listed events starts ends n m in
         let same = agree m q in
         let small : n ≤ none = omega (arith, few f s n o) in
         record {
-          ordered = ordered-as (net₀ .departure) (net .departure) n (connections f) order (o .connections) (same .departure) (lists .ordered);
           first-departures = lists .first-departures ∙ first-list-same net₀ net small same;
           waiting-entries = lists .waiting-entries ∙ waiting-list-same net₀ net small same;
           transfer-entries = lists .transfer-entries ∙ transfer-list-same net₀ net small same;

@@ -34,6 +34,14 @@ put-part xs ys a e h = rw (post-is a e xs h, append-assoc)
 pub part-length : (xs : List ℕ) (a e k : ℕ) → a + k ≡ e → e ≤ length xs → length (midOf a (e - a) xs) ≡ k
 part-length xs a e k h g = simp (length-take, length-drop) (omega arith)
 
+-- a front of xs that was lent and came back as ys
+module _ (xs ys : List ℕ) (e : ℕ) (l : length ys ≡ e) where
+  pub lent-length : e ≤ length (putMid 0 (e - 0) xs ys)
+  lent-length = rw (put-part xs ys 0 e (omega arith)) (simp length-append (omega arith))
+
+  pub lent-front : midOf 0 (e - 0) (putMid 0 (e - 0) xs ys) ≡ ys
+  lent-front = rw (put-part xs ys 0 e (omega arith), sub-zero) (take-at ys (drop e xs) e l)
+
 -- p stands before n, and the rest is as it was in d
 splice-more : (d p xs ys : List ℕ) (n e : ℕ) → length p ≡ n → n ≤ e → xs ≡ p ++ drop n d → spliced xs n e ys ≡ p ++ ys ++ drop e d
 splice-more d p xs ys n e l h q =

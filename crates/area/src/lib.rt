@@ -3,15 +3,13 @@ ghost use mathlib.Core.Path.{_≡_};
 ghost use mathlib.Core.List.{_++_};
 ghost use Prim.Native.Nat.{_+_, _*_, _≤_};
 ghost use lib.ListN.{length, take, drop};
-ghost use Rattle.timetable.specs.File.{connections};
 ghost use Rattle.model.specs.Notices.{rowsOf};
 ghost use Rattle.model.specs.Graph.{times};
-ghost use Rattle.model.specs.Order.{Ordered};
 ghost use Rattle.model.specs.Operations.{same, graphLength, graphFor};
 ghost use Rattle.model.specs.Ready.{networkBy};
 ghost use Rattle.times.specs.Times.{Opened, Standing};
 ghost use Rattle.departures.specs.Listed.{Lists};
-ghost use Rattle.area.specs.Area.{spliced, ListsRoom, Drawn};
+ghost use Rattle.area.specs.Area.{spliced, ListsRoom};
 
 // How many stops and connections a timetable has at most: `maxStops` and `maxConnections`.
 const MAX_STOPS: usize = 500;
@@ -27,19 +25,20 @@ const MAX_GRAPH: usize = 8500;
 // No connection: `none`.
 const NONE: u16 = 65535;
 
-// Whether two parts of one length are the same.
+// Whether two parts of one length are the same. Every number is compared, so that several are compared at once.
 fn equal(xs: &[u16], ys: &[u16]) -> bool
     requires { ⌜ length (now xs) ≡ length (now ys) ⌝ }
     ensures { λ r. ⌜ r ≡ same (now (xs .entry)) (now (ys .entry)) ⌝ }
 {
+    let mut r = true;
     let mut i = 0;
     while i < xs.len() {
         if xs[i] != ys[i] {
-            return false;
+            r = false;
         }
         i += 1;
     }
-    true
+    r
 }
 
 // One part of the area, filled with a list made beside it.
@@ -82,26 +81,36 @@ fn put_times(file: &[u8], stops: usize, n: usize, notices: &[u16], graph: &mut [
     times::expected_times(file, stops, n, notices, &mut graph[0..end]);
 }
 
-// The departure lists by the expected times, and the order of departures.
+// Whether an area of two numbers for each connection has the expected times.
+fn times_right(file: &[u8], stops: usize, n: usize, notices: &[u16], area: &[u16]) -> bool
+    requires { ⌜ Opened (now file) stops n × Standing (now file) (now notices) × (length (now area) ≡ 2 * n) ⌝ }
+    ensures { λ r. ⌜ r ≡ same (now (area .entry)) (times (networkBy (now (file .entry)) (now (notices .entry))) n) ⌝ }
+{
+    let mut want = [0u16; MAX_EVENTS];
+    let end = 2 * n;
+    times::expected_times(file, stops, n, notices, &mut want[0..end]);
+    equal(area, &want[0..end])
+}
+
+// The departure lists by the expected times.
 fn list_departures(
     file: &[u8],
     stops: usize,
     n: usize,
     notices: &[u16],
     expected: &[u16],
-    order: &mut [u16],
     firsts: &mut [u16],
     waits: &mut [u16],
     changes: &mut [u16],
 )
-    requires { ⌜ Opened (now file) stops n × Standing (now file) (now notices) × (now expected ≡ times (networkBy (now file) (now notices)) n) × ListsRoom stops n (now order) (now firsts) (now waits) (now changes) ⌝ }
-    ensures { λ _. ⌜ Lists (networkBy (now (file .entry)) (now (notices .entry))) (now (order .exit)) (now (firsts .exit)) (now (waits .exit)) (now (changes .exit)) ⌝ }
+    requires { ⌜ Opened (now file) stops n × Standing (now file) (now notices) × (now expected ≡ times (networkBy (now file) (now notices)) n) × ListsRoom stops n (now firsts) (now waits) (now changes) ⌝ }
+    ensures { λ _. ⌜ Lists (networkBy (now (file .entry)) (now (notices .entry))) (now (firsts .exit)) (now (waits .exit)) (now (changes .exit)) ⌝ }
 {
     let mut events = [0u16; MAX_EVENTS];
     let mut from = [0u16; MAX_CONNECTIONS];
     let mut to = [0u16; MAX_CONNECTIONS];
     times::fill_events(file, stops, n, expected, &mut events, &mut from, &mut to);
-    departures::fill_lists(&events, &from, &to, n, order, firsts, waits, changes);
+    departures::fill_lists(&events, &from, &to, n, firsts, waits, changes);
 }
 
 // The departure lists made beside the area, whose times stand, and put behind the times.
@@ -110,14 +119,13 @@ fn put_departures(
     stops: usize,
     n: usize,
     notices: &[u16],
-    order: &mut [u16],
     firsts: &mut [u16],
     waits: &mut [u16],
     changes: &mut [u16],
     graph: &mut [u16],
 )
-    requires { ⌜ Opened (now file) stops n × Standing (now file) (now notices) × (graphLength (now file) ≤ length (now graph)) × (now graph ≡ times (networkBy (now file) (now notices)) n ++ drop (2 * n) (now graph)) × ListsRoom stops n (now order) (now firsts) (now waits) (now changes) ⌝ }
-    ensures { λ _. ⌜ Drawn (now (file .entry)) (now (notices .entry)) (now (graph .entry)) (now (graph .exit)) (now (order .exit)) ⌝ }
+    requires { ⌜ Opened (now file) stops n × Standing (now file) (now notices) × (graphLength (now file) ≤ length (now graph)) × (now graph ≡ times (networkBy (now file) (now notices)) n ++ drop (2 * n) (now graph)) × ListsRoom stops n (now firsts) (now waits) (now changes) ⌝ }
+    ensures { λ _. ⌜ now (graph .exit) ≡ graphFor (now (file .entry)) (rowsOf (now (notices .entry))) ++ drop (graphLength (now (file .entry))) (now (graph .entry)) ⌝ }
 {
     let end = 2 * n;
     list_departures(
@@ -126,7 +134,6 @@ fn put_departures(
         n,
         notices,
         &graph[0..end],
-        order,
         firsts,
         waits,
         changes,
@@ -134,17 +141,10 @@ fn put_departures(
     put_parts(n, firsts, waits, changes, graph);
 }
 
-// The rest of the area whose times stand, and the order of departures.
-fn put_lists(
-    file: &[u8],
-    stops: usize,
-    n: usize,
-    notices: &[u16],
-    graph: &mut [u16],
-    order: &mut [u16],
-)
-    requires { ⌜ Opened (now file) stops n × Standing (now file) (now notices) × (graphLength (now file) ≤ length (now graph)) × (now graph ≡ times (networkBy (now file) (now notices)) n ++ drop (2 * n) (now graph)) × (n + n ≤ length (now order)) ⌝ }
-    ensures { λ _. ⌜ Drawn (now (file .entry)) (now (notices .entry)) (now (graph .entry)) (now (graph .exit)) (now (order .exit)) ⌝ }
+// The rest of the area whose times stand.
+fn put_lists(file: &[u8], stops: usize, n: usize, notices: &[u16], graph: &mut [u16])
+    requires { ⌜ Opened (now file) stops n × Standing (now file) (now notices) × (graphLength (now file) ≤ length (now graph)) × (now graph ≡ times (networkBy (now file) (now notices)) n ++ drop (2 * n) (now graph)) ⌝ }
+    ensures { λ _. ⌜ now (graph .exit) ≡ graphFor (now (file .entry)) (rowsOf (now (notices .entry))) ++ drop (graphLength (now (file .entry))) (now (graph .entry)) ⌝ }
 {
     let mut firsts = [NONE; MAX_STOPS];
     let mut waits = [NONE; MAX_CONNECTIONS];
@@ -154,7 +154,6 @@ fn put_lists(
         stops,
         n,
         notices,
-        order,
         &mut firsts[0..stops],
         &mut waits[0..n],
         &mut changes[0..n],
@@ -162,36 +161,24 @@ fn put_lists(
     );
 }
 
-// The graph area of a timetable and the notices that stand, and the order of its departures.
-pub fn fill_graph(
-    file: &[u8],
-    stops: usize,
-    n: usize,
-    notices: &[u16],
-    graph: &mut [u16],
-    order: &mut [u16],
-)
-    requires { ⌜ Opened (now file) stops n × Standing (now file) (now notices) × (graphLength (now file) ≤ length (now graph)) × (n + n ≤ length (now order)) ⌝ }
-    ensures { λ _. ⌜ Drawn (now (file .entry)) (now (notices .entry)) (now (graph .entry)) (now (graph .exit)) (now (order .exit)) ⌝ }
+// The graph area of a timetable and the notices that stand.
+pub fn fill_graph(file: &[u8], stops: usize, n: usize, notices: &[u16], graph: &mut [u16])
+    requires { ⌜ Opened (now file) stops n × Standing (now file) (now notices) × (graphLength (now file) ≤ length (now graph)) ⌝ }
+    ensures { λ _. ⌜ now (graph .exit) ≡ graphFor (now (file .entry)) (rowsOf (now (notices .entry))) ++ drop (graphLength (now (file .entry))) (now (graph .entry)) ⌝ }
 {
     put_times(file, stops, n, notices, graph);
-    put_lists(file, stops, n, notices, graph, order);
+    put_lists(file, stops, n, notices, graph);
 }
 
-// Whether the area is the one of the timetable and the notices that stand; the order of departures comes with the answer.
-pub fn is_graph(
-    file: &[u8],
-    stops: usize,
-    n: usize,
-    notices: &[u16],
-    graph: &[u16],
-    order: &mut [u16],
-) -> bool
-    requires { ⌜ Opened (now file) stops n × Standing (now file) (now notices) × (graphLength (now file) ≤ length (now graph)) × (n + n ≤ length (now order)) ⌝ }
-    ensures { λ r. ⌜ (r ≡ same (take (graphLength (now (file .entry))) (now (graph .entry))) (graphFor (now (file .entry)) (rowsOf (now (notices .entry))))) × Ordered (networkBy (now (file .entry)) (now (notices .entry)) .departure) (connections (now (file .entry))) (connections (now (file .entry)) + connections (now (file .entry))) (now (order .exit)) ⌝ }
+// Whether the area is the one of the timetable and the notices that stand: its times are the expected ones, and its lists are
+// those of its times.
+pub fn is_graph(file: &[u8], stops: usize, n: usize, notices: &[u16], graph: &[u16]) -> bool
+    requires { ⌜ Opened (now file) stops n × Standing (now file) (now notices) × (graphLength (now file) ≤ length (now graph)) ⌝ }
+    ensures { λ r. ⌜ r ≡ same (take (graphLength (now (file .entry))) (now (graph .entry))) (graphFor (now (file .entry)) (rowsOf (now (notices .entry)))) ⌝ }
 {
-    let mut want = [0u16; MAX_GRAPH];
-    fill_graph(file, stops, n, notices, &mut want, order);
-    let end = 4 * n + stops;
-    equal(&graph[0..end], &want[0..end])
+    let end = 2 * n;
+    if !times_right(file, stops, n, notices, &graph[0..end]) {
+        return false;
+    }
+    certificate::lists_right(file, stops, n, graph)
 }

@@ -1,7 +1,7 @@
 // The operations that write: building, posting and withdrawing, with the checks of both areas.
 ghost use mathlib.Core.Path.{_≡_};
 ghost use mathlib.Core.List.{[], _∷_, _++_};
-ghost use Prim.Native.Nat.{ℕ, _+_, _≤_};
+ghost use Prim.Native.Nat.{ℕ, _≤_};
 ghost use lib.ListN.{length, drop};
 ghost use Rattle.timetable.specs.Answers.{refused, firstRefusal};
 ghost use Rattle.timetable.specs.File.{connections};
@@ -9,9 +9,8 @@ ghost use Rattle.timetable.specs.Accepted.{Timetable};
 ghost use Rattle.timetable.specs.Check.{told as countsTold};
 ghost use Rattle.timetable.specs.declared.Verdict.the-variants.{Passed};
 ghost use Rattle.model.specs.Notices.{notice, rowsOf, entered, struck};
-ghost use Rattle.model.specs.Order.{Ordered};
 ghost use Rattle.model.specs.Operations.{graphLength, graphFor, lengthsVerdict, contentsVerdict, outcome, built, posted, withdrawn};
-ghost use Rattle.model.specs.Ready.{networkBy, Ready};
+ghost use Rattle.model.specs.Ready.{Ready};
 ghost use Rattle.notices.specs.Kept.{Kept};
 ghost use Rattle.times.specs.Times.{Opened, Standing};
 ghost use Rattle.graph.specs.Answers.{told};
@@ -56,10 +55,10 @@ pub fn lengths_verdict(file: &[u8], notices: &[u16], graph: &[u16]) -> Verdict
     Verdict::Passed
 }
 
-// Refusals 23 and 24; where they pass, the connections in the order of departure stand in `order`.
-pub fn contents_verdict(file: &[u8], notices: &[u16], graph: &[u16], order: &mut [u16]) -> Verdict
-    requires { ⌜ Timetable (now file) × (lengthsVerdict (now file) (now notices) (now graph) ≡ Passed) × (connections (now file) + connections (now file) ≤ length (now order)) ⌝ }
-    ensures { λ r. ⌜ (r ≡ contentsVerdict (now (file .entry)) (now (notices .entry)) (now (graph .entry))) × (r ≡ Passed → Ordered (networkBy (now (file .entry)) (now (notices .entry)) .departure) (connections (now (file .entry))) (connections (now (file .entry)) + connections (now (file .entry))) (now (order .exit))) ⌝ }
+// Refusals 23 and 24.
+pub fn contents_verdict(file: &[u8], notices: &[u16], graph: &[u16]) -> Verdict
+    requires { ⌜ Timetable (now file) × (lengthsVerdict (now file) (now notices) (now graph) ≡ Passed) ⌝ }
+    ensures { λ r. ⌜ r ≡ contentsVerdict (now (file .entry)) (now (notices .entry)) (now (graph .entry)) ⌝ }
 {
     let stops = timetable::stops(file) as usize;
     let connections = timetable::connections(file);
@@ -70,7 +69,7 @@ pub fn contents_verdict(file: &[u8], notices: &[u16], graph: &[u16], order: &mut
         }
         Verdict::Passed => {}
     }
-    if area::is_graph(file, stops, connections as usize, notices, graph, order) {
+    if area::is_graph(file, stops, connections as usize, notices, graph) {
         return Verdict::Passed;
     }
     Verdict::Refused(24, 0)
@@ -88,8 +87,7 @@ pub fn areas_verdict(file: &[u8], notices: &[u16], graph: &[u16]) -> Verdict
         }
         Verdict::Passed => {}
     }
-    let mut order = [65535u16; 4000];
-    contents_verdict(file, notices, graph, &mut order)
+    contents_verdict(file, notices, graph)
 }
 
 // Refusals 12, 13, 14, 25 and 26 of a posting, by the notices that stand.
@@ -137,8 +135,7 @@ fn draw(file: &[u8], stops: usize, n: usize, notices: &[u16], graph: &mut [u16])
     requires { ⌜ Opened (now file) stops n × Standing (now file) (now notices) × (graphLength (now file) ≤ length (now graph)) ⌝ }
     ensures { λ _. ⌜ now (graph .exit) ≡ graphFor (now (file .entry)) (rowsOf (now (notices .entry))) ++ drop (graphLength (now (file .entry))) (now (graph .entry)) ⌝ }
 {
-    let mut order = [65535u16; 4000];
-    area::fill_graph(file, stops, n, notices, graph, &mut order);
+    area::fill_graph(file, stops, n, notices, graph);
 }
 
 // No notice stands, and the graph says so.

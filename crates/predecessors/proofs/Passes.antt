@@ -23,10 +23,7 @@ module _ (f notices graph order : List ℕ) (p : Sweepable f notices graph order
   abbrev net : Network
   net = networkBy f notices
 
-  abbrev slots : ℕ
-  slots = connections f + connections f
-
-  module _ (i : ℕ) (h : i < slots) where
+  module _ (i : ℕ) (h : i < connections f) where
     -- the slot is one of the order's
     pub slot-room : i < length order
     slot-room = omega (arith, p .ordered .room)
@@ -52,15 +49,15 @@ module _ (f notices graph order : List ℕ) (p : Sweepable f notices graph order
     passed-long i work s = s .long
 
     -- slot i has its turn
-    pub pass-turn : (i : ℕ) → i < slots → (work after : List ℕ) → Passed i work → after ≡ turned (networkBy f notices) a t work (getD order i 0) → Passed (i + 1) after
+    pub pass-turn : (i : ℕ) → i < connections f → (work after : List ℕ) → Passed i work → after ≡ turned (networkBy f notices) a t work (getD order i 0) → Passed (i + 1) after
     unfolding networkOf
     pass-turn i h work after s e =
         rw e (swept-slot net a t (p .ordered .place) (sound f notices graph (p .ready)) (p .ordered .rises) i (getD order i 0) work (p .ordered .slots i h) s)
 
     -- after the last slot the predecessors are there
-    pub pass-ends : (work : List ℕ) → Passed slots work → work ≡ predecessors (networkBy f notices) a t
+    pub pass-ends : (work : List ℕ) → Passed (connections f) work → work ≡ predecessors (networkBy f notices) a t
     unfolding networkOf
-    pass-ends work s = swept-all net a t (p .ordered .place) slots work (p .ordered .within) s
+    pass-ends work s = swept-all net a t (p .ordered .place) (connections f) work (p .ordered .within) s
 
 -- the first n of a list are n
 pub part-length : (l : List ℕ) (n : ℕ) → n ≤ length l → length (take (n - 0) l) ≡ n

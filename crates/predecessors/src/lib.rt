@@ -146,7 +146,7 @@ fn sweep(
 {
     clear(work);
     let stops = timetable::stops(file) as usize;
-    let slots = 2 * work.len();
+    let slots = work.len();
     let mut slot = 0;
     while slot < slots {
         turn(file, notices, graph, stops, order[slot], from, time, work);

@@ -1,49 +1,71 @@
 -- An enquiry by its parts. Assumes nothing.
 use mathlib.Core.Path.{_≡_, _∙_, ap}
 use mathlib.Core.List.{List, _++_}
-use Prim.Native.Nat.{ℕ, _+_}
-use lib.ListN.{take, drop}
+use Prim.Native.Nat.{ℕ, _*_, _<_, _≤_}
+use native.Mathlib.Omega.{arith}
+use lib.ListN.{length, take, drop}
 use lib.Seq.{take-at}
 use Rattle.timetable.specs.Answers.{Answer, refused, orElse}
 use Rattle.timetable.specs.File.{stops, connections}
-use Rattle.timetable.specs.Check.{fileVerdict}
+use Rattle.timetable.specs.Check.{fileVerdict, maxConnections}
 use Rattle.timetable.specs.Accepted.{Timetable}
 use Rattle.timetable.specs.declared.Verdict.the-variants.{Passed, Refused}
 use Rattle.timetable.proofs.Accepted.{accepted-iff}
 use Rattle.model.specs.Times.{networkOf}
+use Rattle.model.specs.Graph.{departureIn}
 use Rattle.model.specs.Order.{Ordered}
 use Rattle.model.specs.Predecessors.{predecessors}
 use Rattle.model.specs.Operations.{Arrival, contentsVerdict, enquiry, searched, enquired}
-use Rattle.model.specs.Ready.{networkBy}
-use Rattle.model.proofs.Ready.{ready-by}
+use Rattle.model.specs.Ready.{networkBy, Ready}
+use Rattle.model.proofs.Ready.{ready-by, sound, graph-room, departure-read}
 use Rattle.model.proofs.Rounds.{length-predecessors}
 use Rattle.model.proofs.Enquiries.{enquiry-means}
+use Rattle.departures.specs.Order.{minutes}
+use Rattle.departures.proofs.Sorting.{ordered-same}
+use Rattle.predecessors.specs.Sweepable.{Sweepable}
 use Rattle.journeys.specs.Reading.{readOut, Reading}
 use Rattle.search.specs.Answered.{Answered}
 use Rattle.search.specs.Verdicts.{roomVerdict, askedVerdict}
-use Rattle.search.specs.Given.{OrderRoom, Fitting, Searchable}
+use Rattle.search.specs.Given.{Fitting, Searchable}
 use Rattle.search.proofs.Verdicts.{else-assoc, room-passed}
 
-module _ (f notices graph order work journey : List ℕ) (s : ℕ) where
+module _ (f notices graph work journey : List ℕ) (s : ℕ) where
   -- what is known once the lengths have passed
-  pub fitting : Timetable f → s ≡ stops f → OrderRoom f order → roomVerdict f notices graph work journey ≡ Passed
-      → Fitting f notices graph order work journey s
-  fitting x y z e =
+  pub fitting : Timetable f → s ≡ stops f → roomVerdict f notices graph work journey ≡ Passed
+      → Fitting f notices graph work journey s
+  fitting x y e =
       let r = room-passed f notices graph work journey e in
-      record { timetable = x; stop-count = y; lengths = r .0; order-room = z; work-room = r .1; journey-room = r .2 }
+      record { timetable = x; stop-count = y; lengths = r .0; work-room = r .1; journey-room = r .2 }
 
-  -- what is known once all checks have passed, and the order has been written
-  pub searchable : Fitting f notices graph order work journey s → contentsVerdict f notices graph ≡ Passed
-      → (filled : List ℕ) → Ordered (networkBy f notices .departure) (connections f) (connections f + connections f) filled
-      → Searchable f notices graph filled work journey
-  searchable p e filled o =
+  -- what is known once all checks have passed
+  pub searchable : Fitting f notices graph work journey s → contentsVerdict f notices graph ≡ Passed
+      → Searchable f notices graph work journey
+  searchable p e =
       record {
-        sweepable = record { ready = ready-by f notices graph (accepted-iff f .1 (p .timetable)) (p .lengths) e; ordered = o };
+        ready = ready-by f notices graph (accepted-iff f .1 (p .timetable)) (p .lengths) e;
         work-room = p .work-room;
         journey-room = p .journey-room;
       }
 
-module _ (f notices graph order work journey : List ℕ) (a t : ℕ) (p : Searchable f notices graph order work journey)
+-- the n connections of accepted areas
+module _ (f notices graph : List ℕ) (r : Ready f notices graph) (n : ℕ) (q : n ≡ connections f) where
+  -- their departures can be sorted
+  pub sortable : (n ≤ maxConnections) × (2 * n ≤ length graph) × ((c : ℕ) → c < n → departureIn graph c < minutes)
+  unfolding networkOf
+  sortable =
+      let few : connections f ≤ maxConnections = r .timetable .few in
+      let s = sound f notices graph r in (
+        omega arith,
+        omega (arith, graph-room f notices graph r),
+        λ c h. let l : c < connections f = rw q at h in omega (arith, departure-read f notices graph r c l, s .forward c l, s .early c l),
+      )
+
+  -- the order of the departures in the graph area is the one in the network
+  pub sweepable : (order : List ℕ) → Ordered (departureIn graph) n n order → Sweepable f notices graph order
+  sweepable order o =
+      record { ready = r; ordered = ordered-same _ _ (connections f) (connections f) order (departure-read f notices graph r) (rw q at o) }
+
+module _ (f notices graph work journey : List ℕ) (a t : ℕ) (p : Searchable f notices graph work journey)
     (filled : List ℕ) (e : filled ≡ predecessors (networkBy f notices) a t ++ drop (connections f) work) where
   front : take (connections f) filled ≡ predecessors (networkBy f notices) a t
   unfolding networkOf
@@ -51,7 +73,7 @@ module _ (f notices graph order work journey : List ℕ) (a t : ℕ) (p : Search
 
   -- the journey can be read out of the predecessors
   pub reading : Reading f notices graph filled journey a t
-  reading = record { ready = p .sweepable .ready; filled = front; room = p .journey-room }
+  reading = record { ready = p .ready; filled = front; room = p .journey-room }
 
   -- what is read is what is searched for
   pub searched-read : (b : ℕ) → readOut (networkBy f notices) filled journey a b t ≡ searched Passed (networkBy f notices) a b t work journey

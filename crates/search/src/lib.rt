@@ -11,7 +11,7 @@ ghost use Rattle.journeys.specs.Reading.{told};
 ghost use Rattle.search.specs.Answered.{Answered};
 ghost use Rattle.search.specs.Margin.{toldMargin};
 ghost use Rattle.search.specs.Verdicts.{roomVerdict, requestVerdict, askedVerdict, areasVerdict, changeVerdict};
-ghost use Rattle.search.specs.Given.{Numbered, Counted, OrderRoom, Fitting, Searchable, Changing};
+ghost use Rattle.search.specs.Given.{Numbered, Counted, Fitting, Searchable, Changing};
 use journeys::Enquired;
 use timetable::Checked;
 use timetable::Verdict;
@@ -31,6 +31,12 @@ const SHORT_JOURNEY: u16 = 29;
 
 // The last minute of an expected time.
 const LAST_EXPECTED: u16 = 5759;
+
+// How many connections a timetable has at most: `maxConnections`.
+const MAX_CONNECTIONS: usize = 2000;
+
+// No connection: `none`.
+const NONE: u16 = 65535;
 
 // The answer of a margin: the minutes, or the refusal's number and place.
 pub enum Margined {
@@ -93,31 +99,32 @@ fn request_verdict(stops: u16, from: u16, to: u16, time: u16) -> Verdict
     Verdict::Passed
 }
 
-// The journey, once all checks have passed.
+// The journey, once all checks have passed: the departures are sorted, and the predecessors are filled in that order.
 fn find_journey(
     file: &[u8],
     notices: &[u16],
     graph: &[u16],
-    order: &[u16],
     work: &mut [u16],
     journey: &mut [u16],
     from: u16,
     to: u16,
     time: u16,
 ) -> Enquired
-    requires { ⌜ Searchable (now file) (now notices) (now graph) (now order) (now work) (now journey) ⌝ }
+    requires { ⌜ Searchable (now file) (now notices) (now graph) (now work) (now journey) ⌝ }
     ensures { λ r. ⌜ enquiry (told r) (now (work .exit)) (now (journey .exit)) ≡ searched Passed (networkBy (now (file .entry)) (now (notices .entry))) from to time (now (work .entry)) (now (journey .entry)) ⌝ }
 {
-    predecessors::fill_predecessors(file, notices, graph, order, from, time, work);
+    let n = timetable::connections(file) as usize;
+    let mut order = [NONE; MAX_CONNECTIONS];
+    departures::order_departures(graph, n, &mut order);
+    predecessors::fill_predecessors(file, notices, graph, &order, from, time, work);
     journeys::read_journey(file, notices, graph, work, journey, from, to, time)
 }
 
-// The enquiry in areas that are long enough, with room for the order of departures.
+// The enquiry in areas that are long enough.
 fn enquire_in(
     file: &[u8],
     notices: &[u16],
     graph: &[u16],
-    order: &mut [u16],
     work: &mut [u16],
     journey: &mut [u16],
     stops: u16,
@@ -125,10 +132,10 @@ fn enquire_in(
     to: u16,
     time: u16,
 ) -> Enquired
-    requires { ⌜ Fitting (now file) (now notices) (now graph) (now order) (now work) (now journey) stops ⌝ }
+    requires { ⌜ Fitting (now file) (now notices) (now graph) (now work) (now journey) stops ⌝ }
     ensures { λ r. ⌜ enquiry (told r) (now (work .exit)) (now (journey .exit)) ≡ searched (askedVerdict (now (file .entry)) (now (notices .entry)) (now (graph .entry)) from to time) (networkBy (now (file .entry)) (now (notices .entry))) from to time (now (work .entry)) (now (journey .entry)) ⌝ }
 {
-    let contents = graph::contents_verdict(file, notices, graph, order);
+    let contents = graph::contents_verdict(file, notices, graph);
     match contents {
         Verdict::Refused(number, place) => {
             return Enquired::Refused(number, place);
@@ -142,15 +149,14 @@ fn enquire_in(
         }
         Verdict::Passed => {}
     }
-    find_journey(file, notices, graph, order, work, journey, from, to, time)
+    find_journey(file, notices, graph, work, journey, from, to, time)
 }
 
-// The enquiry in an accepted timetable, with room for the order of departures.
+// The enquiry in an accepted timetable.
 fn enquire_by(
     file: &[u8],
     notices: &[u16],
     graph: &[u16],
-    order: &mut [u16],
     work: &mut [u16],
     journey: &mut [u16],
     stops: u16,
@@ -159,7 +165,7 @@ fn enquire_by(
     to: u16,
     time: u16,
 ) -> Enquired
-    requires { ⌜ Counted (now file) stops connections × OrderRoom (now file) (now order) ⌝ }
+    requires { ⌜ Counted (now file) stops connections ⌝ }
     ensures { λ r. ⌜ enquiry (told r) (now (work .exit)) (now (journey .exit)) ≡ searched (orElse (roomVerdict (now (file .entry)) (now (notices .entry)) (now (graph .entry)) (now (work .entry)) (now (journey .entry))) (askedVerdict (now (file .entry)) (now (notices .entry)) (now (graph .entry)) from to time)) (networkBy (now (file .entry)) (now (notices .entry))) from to time (now (work .entry)) (now (journey .entry)) ⌝ }
 {
     let room = room_verdict(file, notices, graph, work, journey, connections);
@@ -169,18 +175,7 @@ fn enquire_by(
         }
         Verdict::Passed => {}
     }
-    enquire_in(
-        file,
-        notices,
-        graph,
-        order,
-        work,
-        journey,
-        stops,
-        from,
-        to,
-        time,
-    )
+    enquire_in(file, notices, graph, work, journey, stops, from, to, time)
 }
 
 // The journey that arrives first, and the predecessor of each connection.
@@ -200,13 +195,10 @@ pub fn enquire(
     let Checked::Accepted(stops, connections) = checked else {
         return refused_enquiry(checked);
     };
-    // no connection yet in any slot: two slots for each of at most 2000 connections
-    let mut order = [65535u16; 4000];
     enquire_by(
         file,
         notices,
         graph,
-        &mut order,
         work,
         journey,
         stops,

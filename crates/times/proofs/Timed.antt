@@ -14,7 +14,7 @@ use Rattle.times.specs.Times.{Timed}
 
 module _ (net : Network) where
   -- the times stand first in the graph area
-  in-graph : (i : ℕ) → i < 2 * net .connections → getD (times net (net .connections)) i 0 ≡ getD (graphOf net) i 0
+  pub in-graph : (i : ℕ) → i < 2 * net .connections → getD (times net (net .connections)) i 0 ≡ getD (graphOf net) i 0
   unfolding graphOf
   in-graph i h =
       let n : ℕ = net .connections in

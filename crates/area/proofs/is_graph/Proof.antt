@@ -1,69 +1,65 @@
--- `area::is_graph` meets its contract: the area is compared with the one that was drawn. Assumes nothing.
-use mathlib.Core.Path.{_∙_}
-use Rattle.area.proofs.Drawing.{compared}
+-- `area::is_graph` meets its contract: where the times are the expected ones, the lists are those of the area's own times just if
+-- the area is the graph. Assumes nothing.
+use mathlib.Core.Path.{_≡_, sym, _∙_}
+use Prim.Native.Nat.{_*_}
+use native.Mathlib.Nat.{sub-zero}
 use borrow.Author.Needs.{needs}
+use borrow.Author.Tests.{not-true, not-false}
+use lib.ListN.{take}
+use Rattle.model.specs.Graph.{times}
+use Rattle.model.specs.Ready.{networkBy}
+use Rattle.model.proofs.Lists.{same-eq}
+use Rattle.area.proofs.Certified.{linking, judged, no-times}
 use Rattle.area.proofs.is_graph.Statement.{statement}
 use Rattle.area.proofs.is_graph.Tie as tie
 
-slice-aggregate-fill-graph : tie.Need-slice-aggregate-fill-graph
-slice-aggregate-fill-graph c = search needs
+-- the places before
+abbrev start : tie.After-times-right → tie.Start
+start k = k .before .before .before .before .before
 
-fill-graph-requires : tie.Need-fill-graph-requires
-fill-graph-requires c κs = search needs
+-- where the test passes the times are the expected ones
+front : (c : tie.Else1) → take (2 * start (c .before) .args .n) (start (c .before) .args .graph .now) ≡ times (networkBy (start (c .before) .args .file .now) (start (c .before) .args .notices .now)) (start (c .before) .args .n)
+front c = same-eq _ _ (rw sub-zero at (sym (c .before .times-right .ensures) ∙ not-false _ (c .if1 .left)))
 
 mul-end : tie.Need-mul-end
 mul-end c = search needs
 
-add-end : tie.Need-add-end
-add-end c = search needs
+sub-times-right : tie.Need-sub-times-right
+sub-times-right c = search needs
 
-sub-equal : tie.Need-sub-equal
-sub-equal c = search needs
+part-times-right-start : tie.Need-part-times-right-start
+part-times-right-start c = search needs
 
-part-equal-start : tie.Need-part-equal-start
-part-equal-start c = search needs
+part-times-right-end : tie.Need-part-times-right-end
+part-times-right-end c = search needs
 
-part-equal-end : tie.Need-part-equal-end
-part-equal-end c = search needs
-
-sub-equal-2 : tie.Need-sub-equal-2
-sub-equal-2 c = search needs
-
-part-equal-start-2 : tie.Need-part-equal-start-2
-part-equal-start-2 c = search needs
-
-part-equal-end-2 : tie.Need-part-equal-end-2
-part-equal-end-2 c = search needs
-
-equal-requires : tie.Need-equal-requires
-equal-requires c κs = search needs
-
-same-length : tie.Need-same-length
-same-length c = search needs
+times-right-requires : tie.Need-times-right-requires
+times-right-requires c κs = search needs
 
 returns : tie.Need-returns
 returns c =
-    let f = c .before .before .before .before .before .before .before in
-    let s = f .before .before .before .before .before .before .before in
-    let a = s .args in (
-      c .equal .ensures ∙ compared (a .file .now) (a .stops) (a .n) (s .pre .0) (a .notices .now) (a .graph .now) _ _ _ (f .fill-graph .ensures),
-      f .fill-graph .ensures .ordered,
-    )
+    let k = c .before in
+    no-times _ _ _ _ (start k .pre .0 .connections) (rw sub-zero at (sym (k .times-right .ensures) ∙ not-true _ (c .if1 .taken)))
+
+lists-right-requires : tie.Need-lists-right-requires
+lists-right-requires c κs =
+    let p = start (c .before) .pre in
+    linking _ _ _ _ _ (p .0) (p .1) (front c) (p .2)
+
+returns-2 : tie.Need-returns-2
+returns-2 c =
+    let p = start (c .before .before) .pre in
+    judged _ _ _ _ _ (p .0) (p .1) (front (c .before)) _ (p .2) (c .lists-right .ensures)
 
 pub is-graph-spec : {M : Type 1} → statement M
 is-graph-spec =
     tie.close
     (tie.spec
-    slice-aggregate-fill-graph
-    fill-graph-requires
     mul-end
-    add-end
-    sub-equal
-    part-equal-start
-    part-equal-end
-    sub-equal-2
-    part-equal-start-2
-    part-equal-end-2
-    equal-requires
-    same-length
-    returns)
+    sub-times-right
+    part-times-right-start
+    part-times-right-end
+    times-right-requires
+    returns
+    lists-right-requires
+    returns-2)

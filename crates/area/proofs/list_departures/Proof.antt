@@ -19,7 +19,7 @@ slice-aggregate-fill-events-3 c = search needs
 
 fill-events-requires : tie.Need-fill-events-requires
 fill-events-requires c κs =
-    let s = c .before .before .before .before .before .before .before .before .before .before in
+    let s = c .before .before .before .before .before .before .before .before .before in
     let a = s .args in (
       s .pre .0,
       expected-timed (a .file .now) (a .notices .now) (a .expected .now) (a .stops) (a .n) (s .pre .0) (s .pre .1) (s .pre .2),
@@ -37,8 +37,8 @@ slice-aggregate-fill-lists-3 c = search needs
 
 fill-lists-requires : tie.Need-fill-lists-requires
 fill-lists-requires c κs =
-    let e = c .before .before .before .before .before .before .before .before .before .before .fill-events in
-    let s = c .before .before .before .before .before .before .before .before .before .before .before .before .before .before .before .before .before .before .before .before .before in
+    let e = c .before .before .before .before .before .before .before .before .before .fill-events in
+    let s = c .before .before .before .before .before .before .before .before .before .before .before .before .before .before .before .before .before .before .before in
     let a = s .args in
     let f = a .file .now in
     let room = room-kept (e .last .1 .1 .1 .1 .0) (e .last .1 .1 .1 .1 .1 .0) (e .last .1 .1 .1 .1 .1 .1 .0) _ _ _ (e .ensures .1) (a .n) (events-room f (a .stops) (a .n) (s .pre .0)) in (
@@ -48,7 +48,7 @@ fill-lists-requires c κs =
         stops-below f (a .stops) (a .n) (s .pre .0) _ _ (from f) (s .pre .3 .firsts-long) (room .starts-long) (e .ensures .0 .from) (s .pre .0 .timetable .from-stop),
         stops-below f (a .stops) (a .n) (s .pre .0) _ _ (to f) (s .pre .3 .firsts-long) (room .ends-long) (e .ensures .0 .to) (s .pre .0 .timetable .to-stop),
       ),
-      (s .pre .3 .order-long, s .pre .3 .waits-long, s .pre .3 .changes-long),
+      (s .pre .3 .waits-long, s .pre .3 .changes-long),
     )
 
 same-length : tie.Need-same-length
@@ -60,18 +60,15 @@ same-length-2 c = search needs
 same-length-3 : tie.Need-same-length-3
 same-length-3 c = search needs
 
-same-length-4 : tie.Need-same-length-4
-same-length-4 c = search needs
-
 returns : tie.Need-returns
 returns c =
-    let l = c .before .before .before .before .before .before .before .before in
-    let e = l .before .before .before .before .before .before .before .before .before .before .before .fill-events in
-    let s = c .before .before .before .before .before .before .before .before .before .before .before .before .before .before .before .before .before .before .before .before .before .before .before .before .before .before .before .before .before .before in
+    let l = c .before .before .before .before .before .before in
+    let e = l .before .before .before .before .before .before .before .before .before .before .fill-events in
+    let s = c .before .before .before .before .before .before .before .before .before .before .before .before .before .before .before .before .before .before .before .before .before .before .before .before .before .before in
     let a = s .args in
     lists-are (a .file .now) (a .notices .now) (a .expected .now) (a .stops) (a .n) (s .pre .0) (s .pre .1) (s .pre .2)
     (e .last .1 .1 .1 .1 .0) (e .last .1 .1 .1 .1 .1 .0) (e .last .1 .1 .1 .1 .1 .1 .0) (e .ensures .0)
-    _ _ _ _ _ (s .pre .3 .firsts-long) (l .fill-lists .ensures)
+    _ _ _ _ (s .pre .3 .firsts-long) (l .fill-lists .ensures)
 
 pub list-departures-spec : {M : Type 1} → statement M
 list-departures-spec =
@@ -88,5 +85,4 @@ list-departures-spec =
     same-length
     same-length-2
     same-length-3
-    same-length-4
     returns)

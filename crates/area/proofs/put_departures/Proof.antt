@@ -23,7 +23,7 @@ part-list-departures-end c = search needs
 
 list-departures-requires : tie.Need-list-departures-requires
 list-departures-requires c κs =
-    let s = c .before .before .before .before .before .before .before .before .before .before .before .before .before in
+    let s = c .before .before .before .before .before .before .before .before .before .before .before in
     let a = s .args in
     let net = networkBy (a .file .now) (a .notices .now) in
     (s .pre .0, s .pre .1, front-is (times net (a .n)) (a .graph .now) (a .graph .now) (2 * a .n) (length-times net (a .n)) (s .pre .3), s .pre .4)
@@ -43,16 +43,13 @@ same-length-3 c = search needs
 same-length-4 : tie.Need-same-length-4
 same-length-4 c = search needs
 
-same-length-5 : tie.Need-same-length-5
-same-length-5 c = search needs
-
 returns : tie.Need-returns
 returns c =
     let p = c .before .before in
-    let l = p .before .before .before .before .before .before .before .before .before .before .before .before .before in
-    let s = l .before .before .before .before .before .before .before .before .before .before .before .before .before .before in
+    let l = p .before .before .before .before .before .before .before .before .before .before .before in
+    let s = l .before .before .before .before .before .before .before .before .before .before .before .before in
     let a = s .args in
-    drawn-by (a .file .now) (a .stops) (a .n) (s .pre .0) (a .notices .now) (a .graph .now) _ _ _ _ _ (s .pre .3) (l .list-departures .ensures) (p .put-parts .ensures)
+    drawn-by (a .file .now) (a .stops) (a .n) (s .pre .0) (a .notices .now) (a .graph .now) _ _ _ _ (s .pre .3) (l .list-departures .ensures) (p .put-parts .ensures)
 
 pub put-departures-spec : {M : Type 1} → statement M
 put-departures-spec =
@@ -68,5 +65,4 @@ put-departures-spec =
     same-length-2
     same-length-3
     same-length-4
-    same-length-5
     returns)

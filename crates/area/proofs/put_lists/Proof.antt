@@ -33,15 +33,12 @@ part-changes-end c = search needs
 
 put-departures-requires : tie.Need-put-departures-requires
 put-departures-requires c κs =
-    let s = c .before .before .before .before .before .before .before .before .before in
+    let s = c .before .before .before .before .before .before .before in
     let a = s .args in
-    (s .pre .0, s .pre .1, s .pre .2, s .pre .3, lists-room (a .file .now) (a .stops) (a .n) (s .pre .0) (a .order .now) (s .pre .4))
+    (s .pre .0, s .pre .1, s .pre .2, s .pre .3, lists-room (a .file .now) (a .stops) (a .n) (s .pre .0))
 
 same-length : tie.Need-same-length
 same-length c = search needs
-
-same-length-2 : tie.Need-same-length-2
-same-length-2 c = search needs
 
 returns : tie.Need-returns
 returns c = search needs
@@ -61,5 +58,4 @@ put-lists-spec =
     part-changes-end
     put-departures-requires
     same-length
-    same-length-2
     returns)

@@ -1,6 +1,5 @@
 -- `graph::areas_verdict` meets its contract. Assumes nothing.
 use mathlib.Core.Path.{sym, _∙_}
-use native.Mathlib.Omega.{arith}
 use Rattle.timetable.proofs.Order.{or-passed}
 use borrow.Author.Needs.{needs}
 use Rattle.graph.proofs.areas_verdict.Statement.{statement}
@@ -18,18 +17,13 @@ returns c = rw (← (c .before .before .before .lengths-verdict .ensures), c .be
 enum-told : tie.Need-enum-told
 enum-told c = search needs
 
-slice-aggregate-contents-verdict : tie.Need-slice-aggregate-contents-verdict
-slice-aggregate-contents-verdict c = search needs
-
 contents-verdict-requires : tie.Need-contents-verdict-requires
 contents-verdict-requires c κs =
-    let l = c .before .before .before in
-    let t = l .before .before .before .before .pre in
-    let few = t .few in
-    (t, sym (l .lengths-verdict .ensures) ∙ c .before .enum-told .given .1, omega arith)
+    let l = c .before .before in
+    (l .before .before .before .before .pre, sym (l .lengths-verdict .ensures) ∙ c .enum-told .given .1)
 
 returns-2 : tie.Need-returns-2
-returns-2 c = rw (← (c .before .before .before .before .before .lengths-verdict .ensures), c .before .before .before .enum-told .given .1, or-passed) (c .before .contents-verdict .ensures .0)
+returns-2 c = rw (← (c .before .before .before .lengths-verdict .ensures), c .before .enum-told .given .1, or-passed) (c .contents-verdict .ensures)
 
 pub areas-verdict-spec : {M : Type 1} → statement M
 areas-verdict-spec =
@@ -39,6 +33,5 @@ areas-verdict-spec =
     enum-known-verdict
     returns
     enum-told
-    slice-aggregate-contents-verdict
     contents-verdict-requires
     returns-2)

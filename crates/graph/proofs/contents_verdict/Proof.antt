@@ -1,17 +1,15 @@
--- `graph::contents_verdict` meets its contract: the order of departures comes with the comparison of the graph.
--- Assumes nothing.
-use mathlib.Core.Path.{_≡_, refl, sym, _∙_}
+-- `graph::contents_verdict` meets its contract. Assumes nothing.
+use mathlib.Core.Path.{_≡_, sym, _∙_}
 use Rattle.timetable.specs.File.{connections}
 use Rattle.timetable.specs.declared.Verdict.the-variants.{Passed}
 use Rattle.model.specs.Notices.{rowsVerdict}
-use Rattle.model.proofs.Verdicts.{passed-not-refused}
 use Rattle.graph.proofs.Passed.{lengths-room, rows-passed, contents-refused, contents-end}
 use borrow.Author.Needs.{needs}
 use Rattle.graph.proofs.contents_verdict.Statement.{statement}
 use Rattle.graph.proofs.contents_verdict.Tie as tie
 
 -- where 23 has passed
-rows-right : (c : tie.After-enum-told) → let a = c .before .before .before .before .before .before .before .before .before .args in rowsVerdict (connections (a .file .now)) (a .notices .now) ≡ Passed
+rows-right : (c : tie.After-enum-told) → let a = c .before .before .before .before .before .before .before .before .args in rowsVerdict (connections (a .file .now)) (a .notices .now) ≡ Passed
 rows-right c = rw (← (c .before .before .before .connections .ensures)) (sym (c .before .before .check-rows .ensures) ∙ c .enum-told .given .1)
 
 stops-requires : tie.Need-stops-requires
@@ -25,7 +23,7 @@ connections-requires c κs = search needs
 
 check-rows-requires : tie.Need-check-rows-requires
 check-rows-requires c κs =
-    let s = c .before .before .before .before .before .before in
+    let s = c .before .before .before .before .before in
     lengths-room (s .args .file .now) (s .args .notices .now) (s .args .graph .now) (s .pre .1) .0
 
 enum-known-verdict : tie.Need-enum-known-verdict
@@ -34,11 +32,9 @@ enum-known-verdict c = search needs
 returns : tie.Need-returns
 returns c =
     let k = c .before .before .before in
-    let s = k .before .before .before .before .before .before .before in
-    let refuses = sym (k .check-rows .ensures) ∙ c .before .verdict .given .1 in (
-      sym (contents-refused (s .args .file .now) (s .args .notices .now) (s .args .graph .now) _ _ (rw (← (k .before .connections .ensures)) refuses)),
-      λ e. absurd (passed-not-refused e refl),
-    )
+    let s = k .before .before .before .before .before .before in
+    let refuses = sym (k .check-rows .ensures) ∙ c .before .verdict .given .1 in
+    sym (contents-refused (s .args .file .now) (s .args .notices .now) (s .args .graph .now) _ _ (rw (← (k .before .connections .ensures)) refuses))
 
 enum-told : tie.Need-enum-told
 enum-told c = search needs
@@ -48,38 +44,27 @@ cast-is-graph c = search needs
 
 is-graph-requires : tie.Need-is-graph-requires
 is-graph-requires c κs =
-    let k = c .before .before .before .before in
-    let s = k .before .before .before .before .before .before in
+    let k = c .before .before .before in
+    let s = k .before .before .before .before .before in
     let room = lengths-room (s .args .file .now) (s .args .notices .now) (s .args .graph .now) (s .pre .1) in (
       record { timetable = s .pre .0; stops = k .before .stops .ensures; connections = k .connections .ensures },
-      rows-passed (s .args .file .now) (s .args .notices .now) (room .0) (rows-right (c .before)),
+      rows-passed (s .args .file .now) (s .args .notices .now) (room .0) (rows-right c),
       room .1,
-      rw (k .connections .ensures) (s .pre .2),
     )
-
-same-length : tie.Need-same-length
-same-length c = search needs
 
 returns-2 : tie.Need-returns-2
 returns-2 c =
-    let g = c .before .before .before in
-    let s = g .before .before .before .before .before .before .before .before .before .before .before in
-    let ends = contents-end (s .args .file .now) (s .args .notices .now) (s .args .graph .now) (rows-right (g .before .before)) in (
-      rw (ends, ← (g .is-graph .ensures .0), c .if1 .taken),
-      λ e. g .is-graph .ensures .1,
-    )
-
-same-length-2 : tie.Need-same-length-2
-same-length-2 c = search needs
+    let g = c .before in
+    let s = g .before .before .before .before .before .before .before .before .before in
+    let ends = contents-end (s .args .file .now) (s .args .notices .now) (s .args .graph .now) (rows-right (g .before)) in
+    rw (ends, ← (g .is-graph .ensures), c .if1 .taken)
 
 returns-3 : tie.Need-returns-3
 returns-3 c =
-    let g = c .before .before .before in
-    let s = g .before .before .before .before .before .before .before .before .before .before .before in
-    let ends = contents-end (s .args .file .now) (s .args .notices .now) (s .args .graph .now) (rows-right (g .before .before)) in (
-      rw (ends, ← (g .is-graph .ensures .0), c .if1 .left),
-      λ e. absurd (passed-not-refused e refl),
-    )
+    let g = c .before in
+    let s = g .before .before .before .before .before .before .before .before .before in
+    let ends = contents-end (s .args .file .now) (s .args .notices .now) (s .args .graph .now) (rows-right (g .before)) in
+    rw (ends, ← (g .is-graph .ensures), c .if1 .left)
 
 pub contents-verdict-spec : {M : Type 1} → statement M
 contents-verdict-spec =
@@ -94,7 +79,5 @@ contents-verdict-spec =
     enum-told
     cast-is-graph
     is-graph-requires
-    same-length
     returns-2
-    same-length-2
     returns-3)

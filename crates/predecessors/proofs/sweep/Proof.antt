@@ -1,7 +1,7 @@
 -- `predecessors::sweep` meets its contract. The loop's invariant: the work area is as it is before the turn of `slot`.
 -- Assumes nothing.
 use mathlib.Core.Path.{_≡_, sym, _∙_, ap}
-use Prim.Native.Nat.{_+_, _-_, _<_, _≤_}
+use Prim.Native.Nat.{_-_, _<_, _≤_}
 use native.Mathlib.Omega.{arith}
 use borrow.Author.Needs.{needs}
 use lib.ListN.{length, length-replicate}
@@ -15,7 +15,7 @@ use Rattle.predecessors.proofs.sweep.Tie as tie
 
 abbrev Inv-loop : tie.InvT-loop
 Inv-loop file notices graph order from time work₀ stops slots slot₀ work slot =
-    (slot ≤ connections file + connections file) × ((p : Sweepable file notices graph order) × Passed file notices graph order p from time slot work)
+    (slot ≤ connections file) × ((p : Sweepable file notices graph order) × Passed file notices graph order p from time slot work)
 
 abbrev μ-loop : tie.MeasureT-loop
 μ-loop file notices graph order from time work₀ stops slots slot₀ work slot = slots - slot
@@ -30,9 +30,6 @@ stops-requires c κs =
 
 cast-stops : tie.Need-cast-stops Inv-loop μ-loop
 cast-stops c = search needs
-
-mul-slots : tie.Need-mul-slots Inv-loop μ-loop
-mul-slots c = search needs
 
 -- after the entries are set to none
 module _ (c : tie.After-stops Inv-loop μ-loop) where
@@ -55,7 +52,7 @@ mul-turn : tie.Need-mul-turn Inv-loop μ-loop
 mul-turn c = search needs
 
 -- a slot that has its turn is one of the order's
-within : (c : tie.In-loop Inv-loop μ-loop) → c .before .loop .slot < connections (start (c .before .before) .args .file .now) + connections (start (c .before .before) .args .file .now)
+within : (c : tie.In-loop Inv-loop μ-loop) → c .before .loop .slot < connections (start (c .before .before) .args .file .now)
 within c = omega (arith, c .loop-test .taken, long (c .before .before))
 
 shared-slice-read-turn : tie.Need-shared-slice-read-turn Inv-loop μ-loop
@@ -91,7 +88,7 @@ returns : tie.Need-returns Inv-loop μ-loop
 returns c =
     let l = c .before in
     let f = start (l .before) .args .file .now in
-    let q : l .loop .slot ≡ connections f + connections f = omega (arith, c .loop-test .left, l .loop .inv .0, long (l .before)) in
+    let q : l .loop .slot ≡ connections f = omega (arith, c .loop-test .left, l .loop .inv .0, long (l .before)) in
     pass-ends _ _ _ _ (l .loop .inv .1 .0) _ _ _ (rw q at (l .loop .inv .1 .1))
 
 pub sweep-spec : {M : Type 1} → statement M
@@ -103,7 +100,6 @@ sweep-spec =
     clear-requires
     stops-requires
     cast-stops
-    mul-slots
     loop-holds
     mul-turn
     shared-slice-read-turn

@@ -1,6 +1,5 @@
 -- `search::enquire` meets its contract. Assumes nothing.
 use mathlib.Core.Path.{_∙_}
-use native.Mathlib.Omega.{arith}
 use borrow.Author.Needs.{needs}
 use Rattle.timetable.proofs.Accepted.{accepted-iff}
 use Rattle.search.proofs.Verdicts.{file-refused, file-counted}
@@ -27,14 +26,10 @@ returns c =
     answered-by _ _ _ _ _ _ _ _ _ _ _
     (rw (c .refused-enquiry .ensures _ _ q) (enquired-refused _ _ _ _ _ _ _ _ _ _ (file-refused _ _ (k .check .ensures) _ _ q)))
 
-slice-aggregate-enquire-by : tie.Need-slice-aggregate-enquire-by
-slice-aggregate-enquire-by c = search needs
-
 enquire-by-requires : tie.Need-enquire-by-requires
 enquire-by-requires c κs =
-    let x = c .before .before .before .before in
-    let p = file-counted _ _ (x .before .before .check .ensures) _ _ (x .checked .given .1) in
-    (p, omega (arith, p .timetable .few))
+    let x = c .before .before .before in
+    file-counted _ _ (x .before .before .check .ensures) _ _ (x .checked .given .1)
 
 same-length : tie.Need-same-length
 same-length c = search needs
@@ -44,8 +39,8 @@ same-length-2 c = search needs
 
 returns-2 : tie.Need-returns-2
 returns-2 c =
-    let b = c .before .before .before .before .before in
-    let x = b .before .before .before .before .before in
+    let b = c .before .before .before .before in
+    let x = b .before .before .before .before in
     let p = file-counted _ _ (x .before .before .check .ensures) _ _ (x .checked .given .1) in
     answered-by _ _ _ _ _ _ _ _ _ _ _ (b .enquire-by .ensures ∙ enquired-parts _ _ _ _ _ _ _ _ (accepted-iff _ .1 (p .timetable)))
 
@@ -58,7 +53,6 @@ enquire-spec =
     enum-told
     refused-enquiry-requires
     returns
-    slice-aggregate-enquire-by
     enquire-by-requires
     same-length
     same-length-2

@@ -25,10 +25,10 @@ enum-told c = search needs
 
 enquire-in-requires : tie.Need-enquire-in-requires
 enquire-in-requires c κs =
-    let e = c .before .before .before in
+    let e = c .before .before in
     let v = e .before .before in
-    let s = v .before .before .before .before .before .before .before .before .before in
-    fitting _ _ _ _ _ _ _ (s .pre .0 .timetable) (s .pre .0 .stop-count) (s .pre .1) (sym (v .room-verdict .ensures) ∙ e .enum-told .given .1)
+    let s = v .before .before .before .before .before .before .before .before in
+    fitting _ _ _ _ _ _ (s .pre .timetable) (s .pre .stop-count) (sym (v .room-verdict .ensures) ∙ e .enum-told .given .1)
 
 same-length-3 : tie.Need-same-length-3
 same-length-3 c = search needs
@@ -36,13 +36,10 @@ same-length-3 c = search needs
 same-length-4 : tie.Need-same-length-4
 same-length-4 c = search needs
 
-same-length-5 : tie.Need-same-length-5
-same-length-5 c = search needs
-
 returns-2 : tie.Need-returns-2
 returns-2 c =
-    let j = c .before .before .before .before .before .before in
-    let e = j .before .before .before .before in
+    let j = c .before .before .before .before in
+    let e = j .before .before .before in
     rw (← e .before .before .room-verdict .ensures, e .enum-told .given .1) (j .enquire-in .ensures)
 
 pub enquire-by-spec : {M : Type 1} → statement M
@@ -58,5 +55,4 @@ enquire-by-spec =
     enquire-in-requires
     same-length-3
     same-length-4
-    same-length-5
     returns-2)

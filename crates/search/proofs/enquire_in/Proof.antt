@@ -11,11 +11,8 @@ contents-verdict-requires c κs = search needs
 enum-known-contents : tie.Need-enum-known-contents
 enum-known-contents c = search needs
 
-same-length : tie.Need-same-length
-same-length c = search needs
-
 returns : tie.Need-returns
-returns c = rw (← c .before .before .before .before .before .contents-verdict .ensures .0, c .before .contents .given .1)
+returns c = rw (← c .before .before .before .contents-verdict .ensures, c .before .contents .given .1)
 
 enum-told : tie.Need-enum-told
 enum-told c = search needs
@@ -26,47 +23,39 @@ request-verdict-requires c κs = search needs
 enum-known-request : tie.Need-enum-known-request
 enum-known-request c = search needs
 
-same-length-2 : tie.Need-same-length-2
-same-length-2 c = search needs
-
 returns-2 : tie.Need-returns-2
 returns-2 c =
     let q = c .before .before .before in
     let e = q .before in
-    let v = e .before .before .before .before in
-    let s = v .before .before .before .before .before .before .before .before in
-    rw (← v .contents-verdict .ensures .0, e .enum-told .given .1, ← s .pre .stop-count, ← q .request-verdict .ensures, c .before .request .given .1)
+    let v = e .before .before in
+    let s = v .before .before .before .before .before .before in
+    rw (← v .contents-verdict .ensures, e .enum-told .given .1, ← s .pre .stop-count, ← q .request-verdict .ensures, c .before .request .given .1)
 
 enum-told-2 : tie.Need-enum-told-2
 enum-told-2 c = search needs
 
 find-journey-requires : tie.Need-find-journey-requires
 find-journey-requires c κs =
-    let e = c .before .before .before .before .before .before in
-    let v = e .before .before .before .before in
-    let s = v .before .before .before .before .before .before .before .before in
-    let k = v .contents-verdict .ensures in
-    let x = e .enum-told .given .1 in
-    searchable _ _ _ _ _ _ _ (s .pre) (sym (k .0) ∙ x) _ (k .1 x)
+    let e = c .before .before .before .before .before in
+    let v = e .before .before in
+    let s = v .before .before .before .before .before .before in
+    searchable _ _ _ _ _ _ (s .pre) (sym (v .contents-verdict .ensures) ∙ e .enum-told .given .1)
 
-same-length-3 : tie.Need-same-length-3
-same-length-3 c = search needs
+same-length : tie.Need-same-length
+same-length c = search needs
 
-same-length-4 : tie.Need-same-length-4
-same-length-4 c = search needs
-
-same-length-5 : tie.Need-same-length-5
-same-length-5 c = search needs
+same-length-2 : tie.Need-same-length-2
+same-length-2 c = search needs
 
 returns-3 : tie.Need-returns-3
 returns-3 c =
     let j = c .before .before .before .before in
-    let m = j .before .before .before .before in
+    let m = j .before .before .before in
     let q = m .before .before in
     let e = q .before in
-    let v = e .before .before .before .before in
-    let s = v .before .before .before .before .before .before .before .before in
-    rw (← v .contents-verdict .ensures .0, e .enum-told .given .1, ← s .pre .stop-count, ← q .request-verdict .ensures, m .enum-told2 .given .1) (j .find-journey .ensures)
+    let v = e .before .before in
+    let s = v .before .before .before .before .before .before in
+    rw (← v .contents-verdict .ensures, e .enum-told .given .1, ← s .pre .stop-count, ← q .request-verdict .ensures, m .enum-told2 .given .1) (j .find-journey .ensures)
 
 pub enquire-in-spec : {M : Type 1} → statement M
 enquire-in-spec =
@@ -74,16 +63,13 @@ enquire-in-spec =
     (tie.spec
     contents-verdict-requires
     enum-known-contents
-    same-length
     returns
     enum-told
     request-verdict-requires
     enum-known-request
-    same-length-2
     returns-2
     enum-told-2
     find-journey-requires
-    same-length-3
-    same-length-4
-    same-length-5
+    same-length
+    same-length-2
     returns-3)

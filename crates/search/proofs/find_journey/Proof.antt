@@ -1,18 +1,45 @@
 -- `search::find_journey` meets its contract. Assumes nothing.
 use mathlib.Core.Path.{_∙_}
+use native.Mathlib.Omega.{arith}
 use borrow.Author.Needs.{needs}
-use Rattle.search.proofs.Enquiries.{reading, searched-read}
+use Rattle.timetable.proofs.Accepted.{room-for-header}
+use Rattle.search.proofs.Enquiries.{sortable, sweepable, reading, searched-read}
 use Rattle.search.proofs.find_journey.Statement.{statement}
 use Rattle.search.proofs.find_journey.Tie as tie
 
+-- the function's entry
+abbrev start : tie.After-connections → tie.Start
+start c = c .before .before .before .before .before .before
+
+connections-requires : tie.Need-connections-requires
+connections-requires c κs = room-for-header _ (c .before .before .before .before .before .pre .ready .timetable)
+
+cast-n : tie.Need-cast-n
+cast-n c = search needs
+
+slice-aggregate-order-departures : tie.Need-slice-aggregate-order-departures
+slice-aggregate-order-departures c = search needs
+
+order-departures-requires : tie.Need-order-departures-requires
+order-departures-requires c κs =
+    let k = c .before in
+    let p = sortable _ _ _ (start k .pre .ready) _ (k .connections .ensures) in
+    (p .0, p .1, p .2, omega (arith, p .0))
+
+slice-aggregate-fill-predecessors : tie.Need-slice-aggregate-fill-predecessors
+slice-aggregate-fill-predecessors c = search needs
+
 fill-predecessors-requires : tie.Need-fill-predecessors-requires
-fill-predecessors-requires c κs = search needs
+fill-predecessors-requires c κs =
+    let o = c .before .before .before in
+    let k = o .before .before in
+    (sweepable _ _ _ (start k .pre .ready) _ (k .connections .ensures) _ (o .order-departures .ensures), start k .pre .work-room)
 
 read-journey-requires : tie.Need-read-journey-requires
 read-journey-requires c κs =
     let k = c .before .before .before .before in
-    let s = k .before .before .before .before .before .before .before .before in
-    reading _ _ _ _ _ _ _ _ (s .pre) _ (k .fill-predecessors .ensures)
+    let s = start (k .before .before .before .before .before .before) in
+    reading _ _ _ _ _ _ _ (s .pre) _ (k .fill-predecessors .ensures)
 
 same-length : tie.Need-same-length
 same-length c = search needs
@@ -24,10 +51,20 @@ returns : tie.Need-returns
 returns c =
     let r = c .before .before in
     let k = r .before .before .before .before .before in
-    let s = k .before .before .before .before .before .before .before .before in
-    r .read-journey .ensures ∙ searched-read _ _ _ _ _ _ _ _ (s .pre) _ (k .fill-predecessors .ensures) _
+    let s = start (k .before .before .before .before .before .before) in
+    r .read-journey .ensures ∙ searched-read _ _ _ _ _ _ _ (s .pre) _ (k .fill-predecessors .ensures) _
 
 pub find-journey-spec : {M : Type 1} → statement M
 find-journey-spec =
     tie.close
-    (tie.spec fill-predecessors-requires read-journey-requires same-length same-length-2 returns)
+    (tie.spec
+    connections-requires
+    cast-n
+    slice-aggregate-order-departures
+    order-departures-requires
+    slice-aggregate-fill-predecessors
+    fill-predecessors-requires
+    read-journey-requires
+    same-length
+    same-length-2
+    returns)

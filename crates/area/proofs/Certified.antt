@@ -1,0 +1,187 @@
+-- An area whose times stand and whose lists are right is the graph area, and conversely. Assumes nothing.
+use mathlib.Core.Path.{_≡_, refl, sym, _∙_, ap}
+use mathlib.Core.Logic.{⊎-elim}
+use mathlib.Core.Bool.{Bool, true, false}
+use mathlib.Core.List.{List, _++_, append-assoc}
+use Prim.Native.Nat.{ℕ, suc, _+_, _*_, _-_, _<_, _≤_}
+use native.Mathlib.Omega.{arith}
+use lib.ListN.{length, getD, take}
+use lib.Seq.{getD-take, take-take, take-at, length-take-le}
+use Rattle.timetable.specs.File.{stops, connections}
+use Rattle.model.specs.Least.{none, tab}
+use Rattle.model.specs.Network.{Network, Sound}
+use Rattle.model.specs.Notices.{rowsOf}
+use Rattle.model.specs.Times.{networkOf}
+use Rattle.model.specs.Graph.{waiting, transfer, firstDeparture, times, graphOf, graphSize}
+use Rattle.model.specs.Operations.{same, graphLength, graphFor}
+use Rattle.model.specs.Ready.{networkBy}
+use Rattle.model.proofs.Times.{network-sound}
+use Rattle.timetable.proofs.Tests.{not-both}
+use Rattle.model.proofs.Tests.{by-lt, by-bool, same-test}
+use Rattle.model.proofs.Tab.{tab-is}
+use Rattle.model.proofs.Lists.{same-refl, same-eq}
+use Rattle.model.proofs.GraphArea.{length-times, length-graph, waiting-entry, transfer-entry, first-entry}
+use Rattle.model.proofs.Boards.{Agree, waiting-same, transfer-same, first-same}
+use Rattle.times.specs.Times.{Opened, Standing}
+use Rattle.times.proofs.Timed.{in-graph, departure-timed, arrival-timed}
+use Rattle.certificate.specs.Links.{shown, LinksRight, ListsRight, Tells}
+use Rattle.certificate.specs.Linking.{Linking}
+
+module _ (net : Network) (g : List ℕ) where
+  abbrev n : ℕ
+  n = net .connections
+
+  abbrev size : ℕ
+  size = graphSize (net .stops) n
+
+  -- the times stand first
+  pub times-first : take size g ≡ graphOf net → take (2 * n) g ≡ times net n
+  unfolding graphOf
+  times-first q =
+      let lists : List ℕ = tab (waiting net) n ++ (tab (transfer net) n ++ tab (firstDeparture net) (net .stops)) in
+      let parts : graphOf net ≡ times net n ++ lists = simp append-assoc in
+      sym (take-take (2 * n) size g (omega arith))
+      ∙ ap (λ (l : List ℕ). take (2 * n) l) (q ∙ parts)
+      ∙ take-at (times net n) lists (2 * n) (length-times net n)
+
+  -- an entry is that of the graph area
+  entry-of : take size g ≡ graphOf net → (i : ℕ) → i < size → getD g i 0 ≡ getD (graphOf net) i 0
+  entry-of q i h = sym (getD-take size g i 0 h) ∙ ap (λ (l : List ℕ). getD l i 0) q
+
+  pub lists-by : take size g ≡ graphOf net → ListsRight net g
+  lists-by q =
+      record {
+        links = record {
+          firsts = λ s h. entry-of q (4 * n + s) (omega arith) ∙ first-entry net s h;
+          nexts = λ c h. entry-of q (2 * n + c) (omega arith) ∙ waiting-entry net c h;
+        };
+        changes = λ c h. entry-of q (3 * n + c) (omega arith) ∙ transfer-entry net c h;
+      }
+
+  module _ (front : take (2 * n) g ≡ times net n) (right : ListsRight net g) where
+    entry : (i : ℕ) → i < size → getD g i 0 ≡ getD (graphOf net) i 0
+    entry i h =
+        ⊎-elim
+        (λ (l : i < 2 * n). sym (getD-take (2 * n) g i 0 l) ∙ ap (λ (l : List ℕ). getD l i 0) front ∙ in-graph net i l)
+        (λ (l : 2 * n ≤ i).
+        ⊎-elim
+        (λ (k : i < 3 * n).
+        let q : 2 * n + (i - 2 * n) ≡ i = omega arith in
+        rw q at (right .links .nexts (i - 2 * n) (omega arith) ∙ sym (waiting-entry net (i - 2 * n) (omega arith))))
+        (λ (k : 3 * n ≤ i).
+        ⊎-elim
+        (λ (m : i < 4 * n).
+        let q : 3 * n + (i - 3 * n) ≡ i = omega arith in
+        rw q at (right .changes (i - 3 * n) (omega arith) ∙ sym (transfer-entry net (i - 3 * n) (omega arith))))
+        (λ (m : 4 * n ≤ i).
+        let q : 4 * n + (i - 4 * n) ≡ i = omega arith in
+        rw q at (right .links .firsts (i - 4 * n) (omega arith) ∙ sym (first-entry net (i - 4 * n) (omega arith))))
+        (by-lt i (4 * n)))
+        (by-lt i (3 * n)))
+        (by-lt i (2 * n))
+
+    pub graph-by : size ≤ length g → take size g ≡ graphOf net
+    graph-by room =
+        tab-is (λ i. getD (graphOf net) i 0) size 0 (take size g) (length-take-le size g room) (λ i h. getD-take size g i 0 h ∙ entry i h)
+        ∙ sym (tab-is (λ i. getD (graphOf net) i 0) size 0 (graphOf net) (length-graph net) (λ i h. refl))
+
+-- an area at whose front the expected times stand
+module _ (f notices g : List ℕ) (s n : ℕ) (o : Opened f s n) (k : Standing f notices) (front : take (2 * n) g ≡ times (networkBy f notices) n) where
+  abbrev net : Network
+  net = networkBy f notices
+
+  sound : Sound net
+  sound = network-sound f (o .timetable) (rowsOf notices) (k .rows)
+
+  read : (i : ℕ) → i < 2 * n → getD g i 0 ≡ getD (times net n) i 0
+  read i h = sym (getD-take (2 * n) g i 0 h) ∙ ap (λ (l : List ℕ). getD l i 0) front
+
+  departs : (c : ℕ) → c < connections f → getD g (2 * c) 0 ≡ net .departure c
+  unfolding networkOf
+  departs c h = read (2 * c) (omega (arith, o .connections)) ∙ departure-timed net n (o .connections) c (omega (arith, o .connections))
+
+  arrives : (c : ℕ) → c < connections f → getD g (2 * c + 1) 0 ≡ net .arrival c
+  unfolding networkOf
+  arrives c h = read (2 * c + 1) (omega (arith, o .connections)) ∙ arrival-timed net n (o .connections) c (omega (arith, o .connections))
+
+  -- shows the network
+  agree : Agree (shown f g) net
+  unfolding networkOf
+  agree =
+      record {
+        stops = refl;
+        connections = refl;
+        from = λ c h. refl;
+        to = λ c h. refl;
+        departure = departs;
+        ready = λ c h. rw (arrives c h);
+      }
+
+  -- so the lists can be checked
+  pub linking : graphLength f ≤ length g → Linking f s n g
+  unfolding networkOf
+  linking room =
+      record {
+        opened = o;
+        sound = record {
+          few-stops = sound .few-stops;
+          few = sound .few;
+          from-stop = sound .from-stop;
+          to-stop = sound .to-stop;
+          transfers = sound .transfers;
+          forward = λ c h. omega (arith, departs c h, arrives c h, sound .forward c h);
+          early = λ c h. omega (arith, arrives c h, sound .early c h);
+          starts = sound .starts;
+          joins = sound .joins;
+          keeps = λ c h q. omega (arith, arrives c (omega arith), departs (suc c) h, sound .keeps c h q);
+        };
+        room = room;
+      }
+
+  -- the lists of the times shown are those of the network
+  few : connections f ≤ none
+  few = omega (arith, o .timetable .few)
+
+  to-network : ListsRight (shown f g) g → ListsRight net g
+  unfolding networkOf
+  to-network r =
+      record {
+        links = record {
+          firsts = λ t h. r .links .firsts t h ∙ first-same (shown f g) net few agree t;
+          nexts = λ c h. r .links .nexts c h ∙ waiting-same (shown f g) net few agree c h;
+        };
+        changes = λ c h. r .changes c h ∙ transfer-same (shown f g) net few agree c h;
+      }
+
+  from-network : ListsRight net g → ListsRight (shown f g) g
+  unfolding networkOf
+  from-network r =
+      record {
+        links = record {
+          firsts = λ t h. r .links .firsts t h ∙ sym (first-same (shown f g) net few agree t);
+          nexts = λ c h. r .links .nexts c h ∙ sym (waiting-same (shown f g) net few agree c h);
+        };
+        changes = λ c h. r .changes c h ∙ sym (transfer-same (shown f g) net few agree c h);
+      }
+
+  -- and what tells of them tells of the area
+  pub judged : (r : Bool) → graphLength f ≤ length g → Tells r (ListsRight (shown f g) g) → r ≡ same (take (graphLength f) g) (graphFor f (rowsOf notices))
+  unfolding networkOf
+  judged r room tells =
+      let front′ : take (2 * connections f) g ≡ times net (connections f) = rw (o .connections) at front in
+      same-test r (same (take (graphLength f) g) (graphFor f (rowsOf notices)))
+      (λ h. rw (graph-by net g front′ (to-network (tells .0 h)) room) (same-refl (graphOf net)))
+      (λ h. tells .1 (from-network (lists-by net g (same-eq _ _ h))))
+
+-- where the times do not stand, the area is another
+pub no-times : (f notices g : List ℕ) (n : ℕ) → n ≡ connections f → same (take (2 * n) g) (times (networkBy f notices) n) ≡ false
+    → false ≡ same (take (graphLength f) g) (graphFor f (rowsOf notices))
+unfolding networkOf
+no-times f notices g n e h =
+    let net : Network = networkBy f notices in
+    ⊎-elim
+    (λ (q : same (take (graphLength f) g) (graphFor f (rowsOf notices)) ≡ true).
+    let t : take (2 * n) g ≡ times net n = rw e (times-first net g (same-eq _ _ q)) in
+    absurd (not-both (rw t (same-refl (times net n))) h))
+    (λ q. sym q)
+    (by-bool (same (take (graphLength f) g) (graphFor f (rowsOf notices))))
