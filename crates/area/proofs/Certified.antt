@@ -6,7 +6,7 @@ use mathlib.Core.List.{List, _++_, append-assoc}
 use Prim.Native.Nat.{ℕ, suc, _+_, _*_, _-_, _<_, _≤_}
 use native.Mathlib.Omega.{arith}
 use lib.ListN.{length, getD, take}
-use lib.Seq.{getD-take, take-take, take-at, length-take-le}
+use lib.Seq.{ext-getD, getD-take, take-take, take-at, length-take-le}
 use Rattle.timetable.specs.File.{stops, connections}
 use Rattle.model.specs.Least.{none, tab}
 use Rattle.model.specs.Network.{Network, Sound}
@@ -18,13 +18,13 @@ use Rattle.model.specs.Ready.{networkBy}
 use Rattle.model.proofs.Times.{network-sound}
 use Rattle.timetable.proofs.Tests.{not-both}
 use Rattle.model.proofs.Tests.{by-lt, by-bool, same-test}
-use Rattle.model.proofs.Tab.{tab-is}
 use Rattle.model.proofs.Lists.{same-refl, same-eq}
-use Rattle.model.proofs.GraphArea.{length-times, length-graph, waiting-entry, transfer-entry, first-entry}
+use Rattle.model.proofs.GraphArea.{length-times, in-times, length-graph, waiting-entry, transfer-entry, first-entry}
 use Rattle.model.proofs.Boards.{Agree, waiting-same, transfer-same, first-same}
-use Rattle.times.specs.Times.{Opened, Standing}
-use Rattle.times.proofs.Timed.{in-graph, departure-timed, arrival-timed}
-use Rattle.certificate.specs.Links.{shown, LinksRight, ListsRight, Tells}
+use Rattle.timetable.specs.Accepted.{Opened}
+use Rattle.times.specs.Times.{Standing}
+use Rattle.times.proofs.Timed.{departure-timed, arrival-timed}
+use Rattle.certificate.specs.Links.{shown, ListsRight, Tells}
 use Rattle.certificate.specs.Linking.{Linking}
 
 module _ (net : Network) (g : List ℕ) where
@@ -62,7 +62,7 @@ module _ (net : Network) (g : List ℕ) where
     entry : (i : ℕ) → i < size → getD g i 0 ≡ getD (graphOf net) i 0
     entry i h =
         ⊎-elim
-        (λ (l : i < 2 * n). sym (getD-take (2 * n) g i 0 l) ∙ ap (λ (l : List ℕ). getD l i 0) front ∙ in-graph net i l)
+        (λ (l : i < 2 * n). sym (getD-take (2 * n) g i 0 l) ∙ ap (λ (l : List ℕ). getD l i 0) front ∙ sym (in-times net i l))
         (λ (l : 2 * n ≤ i).
         ⊎-elim
         (λ (k : i < 3 * n).
@@ -82,8 +82,8 @@ module _ (net : Network) (g : List ℕ) where
 
     pub graph-by : size ≤ length g → take size g ≡ graphOf net
     graph-by room =
-        tab-is (λ i. getD (graphOf net) i 0) size 0 (take size g) (length-take-le size g room) (λ i h. getD-take size g i 0 h ∙ entry i h)
-        ∙ sym (tab-is (λ i. getD (graphOf net) i 0) size 0 (graphOf net) (length-graph net) (λ i h. refl))
+        let long : length (take size g) ≡ size = length-take-le size g room in
+        ext-getD 0 (take size g) (graphOf net) (long ∙ sym (length-graph net)) (λ i l. let h : i < size = omega arith in getD-take size g i 0 h ∙ entry i h)
 
 -- an area at whose front the expected times stand
 module _ (f notices g : List ℕ) (s n : ℕ) (o : Opened f s n) (k : Standing f notices) (front : take (2 * n) g ≡ times (networkBy f notices) n) where

@@ -2,11 +2,9 @@
 use mathlib.Core.Path.{_≡_, _∙_, ap}
 use mathlib.Core.List.{List, _++_, append-assoc}
 use Prim.Native.Nat.{ℕ, _+_, _*_, _-_, _≤_}
-use native.Mathlib.Nat.{sub-zero}
 use native.Mathlib.Omega.{arith}
 use borrow.Rule.Slice.PartMut.{midOf}
 use lib.ListN.{length, take, drop, replicate, length-replicate}
-use lib.Seq.{take-at}
 use Rattle.timetable.specs.File.{stops, connections}
 use Rattle.timetable.specs.Check.{maxStops, maxConnections}
 use Rattle.model.specs.Least.{none}
@@ -14,12 +12,12 @@ use Rattle.model.specs.Notices.{rowsOf}
 use Rattle.model.specs.Network.{Network}
 use Rattle.model.specs.Times.{networkOf}
 use Rattle.model.specs.Graph.{firstDeparture, times, graphOf}
-use Rattle.model.specs.Operations.{same, graphLength, graphFor}
+use Rattle.model.specs.Operations.{graphLength, graphFor}
 use Rattle.model.specs.Ready.{networkBy}
 use Rattle.model.proofs.Tab.{length-tab}
 use Rattle.model.proofs.GraphArea.{length-times}
-use Rattle.model.proofs.Ready.{graph-long}
-use Rattle.times.specs.Times.{Opened, EventsRoom}
+use Rattle.timetable.specs.Accepted.{Opened}
+use Rattle.times.specs.Times.{EventsRoom}
 use Rattle.departures.specs.Listed.{Lists}
 use Rattle.area.specs.Area.{ListsRoom}
 use Rattle.area.proofs.Splice.{part-length, front-taken, rest-is}
@@ -75,9 +73,3 @@ module _ (f : List ℕ) (s n : ℕ) (o : Opened f s n) where
         drawn
         ∙ ap (λ (r : List ℕ). graphFor f (rowsOf notices) ++ r)
         (rest-is (times net n) graph₀ graph₁ (2 * n) (length-times net n) front (graphLength f) (omega (arith, length-is)))
-
-    -- the front of an area compared with that of the area drawn
-    pub compared : (graph want₀ want : List ℕ) → want ≡ graphFor f (rowsOf notices) ++ drop (graphLength f) want₀
-        → same (midOf 0 (4 * n + s - 0) graph) (midOf 0 (4 * n + s - 0) want) ≡ same (take (graphLength f) graph) (graphFor f (rowsOf notices))
-    compared graph want₀ want drawn =
-        rw (sub-zero, length-is, drawn, take-at (graphFor f (rowsOf notices)) (drop (graphLength f) want₀) (graphLength f) (graph-long f (rowsOf notices)))

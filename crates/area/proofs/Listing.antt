@@ -16,7 +16,8 @@ use Rattle.model.specs.Ready.{networkBy}
 use Rattle.model.proofs.Times.{network-sound}
 use Rattle.model.proofs.Tests.{by-lt}
 use Rattle.model.proofs.Boards.{Agree, waiting-list-same, transfer-list-same, first-list-same}
-use Rattle.times.specs.Times.{Opened, Standing, Timed, Events}
+use Rattle.timetable.specs.Accepted.{Opened}
+use Rattle.times.specs.Times.{Standing, Timed, Events}
 use Rattle.times.proofs.Timed.{departure-timed, arrival-timed, times-timed}
 use Rattle.departures.specs.Order.{minutes, Below}
 use Rattle.departures.specs.Listed.{listed, Lists}

@@ -7,7 +7,8 @@ ghost use Rattle.model.specs.Notices.{rowsOf};
 ghost use Rattle.model.specs.Graph.{times};
 ghost use Rattle.model.specs.Operations.{same, graphLength, graphFor};
 ghost use Rattle.model.specs.Ready.{networkBy};
-ghost use Rattle.times.specs.Times.{Opened, Standing};
+ghost use Rattle.timetable.specs.Accepted.{Opened};
+ghost use Rattle.times.specs.Times.{Standing};
 ghost use Rattle.departures.specs.Listed.{Lists};
 ghost use Rattle.area.specs.Area.{spliced, ListsRoom};
 
@@ -18,9 +19,6 @@ const MAX_CONNECTIONS: usize = 2000;
 
 // How many events the connections have at most: two each.
 const MAX_EVENTS: usize = 4000;
-
-// The longest graph area: `graphSize` of the most stops and connections.
-const MAX_GRAPH: usize = 8500;
 
 // No connection: `none`.
 const NONE: u16 = 65535;

@@ -4,7 +4,7 @@ use Prim.Native.Nat.{ℕ, _≤_}
 use lib.ListN.{length}
 use Rattle.model.specs.Network.{Sound}
 use Rattle.model.specs.Operations.{graphLength}
-use Rattle.times.specs.Times.{Opened}
+use Rattle.timetable.specs.Accepted.{Opened}
 use Rattle.certificate.specs.Links.{shown}
 
 -- an accepted timetable of s stops and n connections, and a graph area that is long enough and shows sound times

@@ -1,9 +1,9 @@
 // The library's answers as numbers for C. An answer is number + 65536 * value: the number is 0 for an accepted call, else the
 // refusal's, with its place for a value.
 ghost use mathlib.Core.Path.{_≡_};
-ghost use Rattle.timetable.specs.Check.{told as countsTold};
-ghost use Rattle.graph.specs.Answers.{told as notedTold};
-ghost use Rattle.journeys.specs.Reading.{told as arrivalTold};
+ghost use Rattle.timetable.specs.Check.{toldCounts};
+ghost use Rattle.graph.specs.Answers.{toldNumber};
+ghost use Rattle.journeys.specs.Reading.{toldArrival};
 ghost use Rattle.search.specs.Margin.{toldMargin};
 ghost use Rattle.codes.specs.Encoded.{pair, coded, codedCounts, codedArrival, codedMargin};
 use graph::Noted;
@@ -26,7 +26,7 @@ fn answer_of(number: u16, low: u16, high: u16) -> u64
 
 // The answer of a check or a building.
 pub fn code_counts(checked: Checked) -> u64
-    ensures { λ r. ⌜ r ≡ codedCounts (countsTold checked) ⌝ }
+    ensures { λ r. ⌜ r ≡ codedCounts (toldCounts checked) ⌝ }
 {
     match checked {
         Checked::Accepted(stops, connections) => answer_of(0, stops, connections),
@@ -36,7 +36,7 @@ pub fn code_counts(checked: Checked) -> u64
 
 // The answer of a posting or a withdrawal.
 pub fn code_noted(noted: Noted) -> u64
-    ensures { λ r. ⌜ r ≡ coded (notedTold noted) ⌝ }
+    ensures { λ r. ⌜ r ≡ coded (toldNumber noted) ⌝ }
 {
     match noted {
         Noted::Accepted(number) => answer_of(0, number, 0),
@@ -46,7 +46,7 @@ pub fn code_noted(noted: Noted) -> u64
 
 // The answer of an enquiry.
 pub fn code_arrival(enquired: Enquired) -> u64
-    ensures { λ r. ⌜ r ≡ codedArrival (arrivalTold enquired) ⌝ }
+    ensures { λ r. ⌜ r ≡ codedArrival (toldArrival enquired) ⌝ }
 {
     match enquired {
         Enquired::Arrives(time, connections) => answer_of(0, time, connections),

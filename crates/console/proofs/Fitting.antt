@@ -7,7 +7,7 @@ use lib.ListN.{length, length-append, length-reverse}
 use Rattle.model.specs.Network.{Network}
 use Rattle.model.specs.Operations.{Arrival}
 use Rattle.model.specs.Meaning.{Journey}
-use Rattle.journeys.specs.Reading.{told}
+use Rattle.journeys.specs.Reading.{toldArrival}
 use Rattle.journeys.specs.declared.Enquired.{Enquired}
 use Rattle.journeys.specs.declared.Enquired.the-variants.{Arrives}
 use Rattle.search.specs.Answered.{Answered}
@@ -23,6 +23,6 @@ journey-fits j = omega (arith, j .count, simp (length-append, length-reverse) at
 
 -- the count that an enquiry answers is at most as large
 pub answer-fits : {f notices graph work₀ journey₀ work journey : List ℕ} {a b t : ℕ} {answer : Enquired} {time count : ℕ}
-    → Answered f notices graph work₀ journey₀ a b t (told answer) work journey → answer ≡ Arrives time count → count ≤ length journey
+    → Answered f notices graph work₀ journey₀ a b t (toldArrival answer) work journey → answer ≡ Arrives time count → count ≤ length journey
 answer-fits {time = time} {count = count} h e =
-    journey-fits (h .means .answered (record { time = time; connections = count }) (ap told e))
+    journey-fits (h .means .answered (record { time = time; connections = count }) (ap toldArrival e))

@@ -1,34 +1,20 @@
 -- Which answer and areas the verdicts of an operation give. Assumes nothing.
-use mathlib.Core.Path.{_≡_, refl, ap}
+use mathlib.Core.Path.{_≡_, refl}
 use mathlib.Core.List.{List, []}
 use Prim.Native.Nat.{ℕ}
 use Rattle.timetable.specs.Answers.{accepted, refused, orElse}
 use Rattle.timetable.specs.File.{connections}
-use Rattle.timetable.specs.Check.{Counts, fileVerdict, checkedAnswer, told}
-use Rattle.timetable.specs.Accepted.{Timetable}
-use Rattle.timetable.specs.declared.Checked.{Checked}
+use Rattle.timetable.specs.Check.{fileVerdict}
+use Rattle.timetable.specs.Accepted.{Timetable, Opened}
 use Rattle.timetable.specs.declared.Checked.the-variants as C
 use Rattle.timetable.specs.declared.Verdict.{Verdict}
 use Rattle.timetable.specs.declared.Verdict.the-variants.{Passed, Refused}
 use Rattle.timetable.proofs.Accepted.{accepted-iff}
-use Rattle.timetable.proofs.Answered.{answered-accepted, answered-refused}
-use Rattle.timetable.proofs.Refusals.{refused-iff}
 use Rattle.model.specs.Notices.{Notice, notice, rowsOf, entered, struck}
-use Rattle.model.specs.Operations.{Outcome, lengthsVerdict, contentsVerdict, outcome, concluded, built, posted, withdrawn}
-use Rattle.times.specs.Times.{Opened}
-use Rattle.graph.specs.Verdicts.{areasVerdict, postingVerdict, withdrawalVerdict}
+use Rattle.model.specs.Operations.{Outcome, lengthsVerdict, contentsVerdict, outcome, concluded, built, posted, withdrawn, areasVerdict}
+use Rattle.graph.specs.Verdicts.{postingVerdict, withdrawalVerdict}
 use Rattle.graph.specs.Written.{Written}
-use Rattle.graph.proofs.Passed.{areas-passed}
-
--- a file that the check accepts is a timetable of these counts
-pub opened-by : (f : List ℕ) (r : Checked) (s n : ℕ) → told r ≡ checkedAnswer f → r ≡ C.Accepted s n → Opened f s n
-opened-by f r s n h e =
-    let a = answered-accepted f (record { stops = s; connections = n }) (rw e at h) in
-    record { timetable = a .0; stops = ap (λ (k : Counts). k .stops) (a .1); connections = ap (λ (k : Counts). k .connections) (a .1) }
-
--- a file that it refuses has this verdict
-pub refused-by : (f : List ℕ) (r : Checked) (n p : ℕ) → told r ≡ checkedAnswer f → r ≡ C.Refused n p → fileVerdict f ≡ Refused n p
-refused-by f r n p h e = refused-iff f n p .1 (answered-refused f n p (rw e at h))
+use Rattle.checks.proofs.Passed.{areas-passed}
 
 -- the first of two verdicts that refuses, whatever comes after both
 pair-refused : (v w x : Verdict) (n p : ℕ) → orElse v (orElse w Passed) ≡ Refused n p → orElse v (orElse w x) ≡ Refused n p

@@ -1,50 +1,25 @@
--- What the operations' code knows where checks have passed, and of an area that was written. Assumes nothing.
+-- What the operations' code knows where their own checks have passed, and of an area that was written. Assumes nothing.
 use mathlib.Core.Path.{_≡_, _∙_}
-use mathlib.Core.Bool.{true, false, not}
+use mathlib.Core.Bool.{true, false}
 use mathlib.Core.List.{List, [], _++_}
 use Prim.Native.Nat.{ℕ, _≤_, _<_}
 use native.Mathlib.Omega.{arith}
-use borrow.Author.Tests.{ltb-false, leb-true, leb-false, eqb-false, not-false}
+use borrow.Author.Tests.{leb-true, leb-false, eqb-false, not-false}
 use lib.Dec.{leb, eqb}
-use lib.ListN.{length, take, drop, length-append}
+use lib.ListN.{length, drop, length-append}
 use Rattle.timetable.specs.Answers.{refuseIf}
 use Rattle.timetable.specs.File.{connections}
-use Rattle.timetable.specs.Accepted.{Timetable}
-use Rattle.timetable.specs.declared.Verdict.the-variants.{Passed, Refused}
-use Rattle.timetable.proofs.Accepted.{accepted-iff}
-use Rattle.timetable.proofs.Order.{or-passed}
-use Rattle.model.specs.Notices.{Notice, notice, room, noticesLength, leastDelay, mostPosted, mostStanding, areaOf, rowsOf, stands, entered, rowsVerdict, WellFormed}
-use Rattle.model.specs.Operations.{same, graphLength, graphFor, lengthsVerdict, contentsVerdict}
-use Rattle.model.specs.Ready.{Ready}
+use Rattle.timetable.specs.declared.Verdict.the-variants.{Passed}
+use Rattle.model.specs.Notices.{Notice, notice, room, noticesLength, leastDelay, mostPosted, mostStanding, areaOf, rowsOf, stands, entered, WellFormed}
+use Rattle.model.specs.Operations.{graphLength, graphFor}
 use Rattle.model.proofs.Verdicts.{else-passed, if-passed}
 use Rattle.model.proofs.Tests.{and-left, and-right}
 use Rattle.model.proofs.Areas.{length-area, rows-area, past-area}
-use Rattle.model.proofs.Rows.{Fits, area-read}
+use Rattle.model.proofs.Rows.{Fits}
 use Rattle.model.proofs.Kept.{entered-formed}
-use Rattle.model.proofs.Ready.{ready-by}
 use Rattle.times.specs.Times.{Standing}
-use Rattle.graph.specs.Verdicts.{areasVerdict, postingVerdict, withdrawalVerdict}
+use Rattle.graph.specs.Verdicts.{postingVerdict, withdrawalVerdict}
 use Rattle.graph.specs.Written.{Written}
-
-module _ (f notices graph : List ℕ) where
-  -- 21 and 22 have passed
-  pub lengths-room : lengthsVerdict f notices graph ≡ Passed → (noticesLength ≤ length notices) × (graphLength f ≤ length graph)
-  unfolding lengthsVerdict
-  lengths-room h =
-      let a = else-passed _ _ .0 h in
-      (ltb-false _ _ (if-passed _ 21 0 .0 (a .0)), ltb-false _ _ (if-passed _ 22 0 .0 (else-passed _ _ .0 (a .1) .0)))
-
-  -- 21 to 24 have passed
-  pub areas-passed : areasVerdict f notices graph ≡ Passed
-      → (lengthsVerdict f notices graph ≡ Passed) × (contentsVerdict f notices graph ≡ Passed)
-  areas-passed h =
-      let a = else-passed (lengthsVerdict f notices graph) _ .0 h in
-      (a .0, else-passed (contentsVerdict f notices graph) Passed .0 (a .1) .0)
-
-  -- 1 to 11 and 21 to 24 have passed
-  pub areas-ready : Timetable f → areasVerdict f notices graph ≡ Passed
-      → Ready f notices graph
-  areas-ready t h = let a = areas-passed h in ready-by f notices graph (accepted-iff f .1 t) (a .0) (a .1)
 
 -- a number that is not 0 is above it, and what may be posted may stand
 limits : (n d : ℕ) → (n ≡ 0 → ⊥) → d ≤ mostPosted → (0 < n) × (d ≤ mostStanding)
@@ -89,23 +64,7 @@ unfolding withdrawalVerdict
 withdrawal-stands ns n h =
     not-false _ (if-passed _ 27 0 .0 (else-passed _ Passed .0 (else-passed (refuseIf (eqb n 0) 12 0) _ .0 h .1) .0))
 
--- 23 refuses
-pub contents-refused : (f notices graph : List ℕ) (n p : ℕ) → rowsVerdict (connections f) notices ≡ Refused n p
-    → contentsVerdict f notices graph ≡ Refused n p
-unfolding contentsVerdict
-contents-refused f notices graph n p h = rw h
-
--- 23 has passed: 24 decides
-pub contents-end : (f notices graph : List ℕ) → rowsVerdict (connections f) notices ≡ Passed
-    → contentsVerdict f notices graph ≡ refuseIf (not (same (take (graphLength f) graph) (graphFor f (rowsOf notices)))) 24 0
-unfolding contentsVerdict
-contents-end f notices graph h = rw (h, or-passed)
-
--- an area that passes 23 holds notices that may stand
-pub rows-passed : (f notices : List ℕ) → noticesLength ≤ length notices → rowsVerdict (connections f) notices ≡ Passed → Standing f notices
-rows-passed f notices l h = let a = area-read (connections f) notices l h in record { long = l; rows = a .1; noted = a .0 }
-
--- so does an area that was written for such notices, and it holds just these
+-- an area that was written for notices that may stand holds just these
 pub written-standing : (f : List ℕ) (ns : List Notice) (rest area : List ℕ) → area ≡ areaOf ns ++ rest → WellFormed (connections f) ns
     → Standing f area × (rowsOf area ≡ ns)
 written-standing f ns rest area e w =

@@ -5,6 +5,6 @@ use Rattle.graph.specs.declared.Noted.{Noted}
 use Rattle.graph.specs.declared.Noted.the-variants as N
 
 -- document 01's values and numbers of the answer
-abbrev pub told : Noted → Answer ℕ
-told (N.Accepted n) = accepted n
-told (N.Refused n p) = refused n p
+abbrev pub toldNumber : Noted → Answer ℕ
+toldNumber (N.Accepted n) = accepted n
+toldNumber (N.Refused n p) = refused n p

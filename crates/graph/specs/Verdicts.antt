@@ -1,4 +1,4 @@
--- The refusals of the areas together, and of a posting and a withdrawal those that come after them. Assumes nothing.
+-- The refusals of a posting and of a withdrawal that come after those of the areas. Assumes nothing.
 use mathlib.Core.Bool.{not, _&&_}
 use mathlib.Core.List.{List, [], _∷_}
 use Prim.Native.Nat.{ℕ}
@@ -7,11 +7,6 @@ use lib.ListN.{length}
 use Rattle.timetable.specs.Answers.{refuseIf, firstRefusal}
 use Rattle.timetable.specs.declared.Verdict.{Verdict}
 use Rattle.model.specs.Notices.{Notice, room, leastDelay, mostPosted, stands}
-use Rattle.model.specs.Operations.{lengthsVerdict, contentsVerdict}
-
--- 21 to 24
-abbrev pub areasVerdict : List ℕ → List ℕ → List ℕ → Verdict
-areasVerdict f notices graph = firstRefusal (lengthsVerdict f notices graph ∷ contentsVerdict f notices graph ∷ [])
 
 -- 12, 13, 14, 25 and 26: posting notice n for connection c of C with delay d, where these notices stand
 unfoldable pub postingVerdict : ℕ → List Notice → ℕ → ℕ → ℕ → Verdict

@@ -1,19 +1,19 @@
-// The operations that write: building, posting and withdrawing, with the checks of both areas.
+// The operations that write: building, posting and withdrawing.
 ghost use mathlib.Core.Path.{_≡_};
-ghost use mathlib.Core.List.{[], _∷_, _++_};
+ghost use mathlib.Core.List.{[], _++_};
 ghost use Prim.Native.Nat.{ℕ, _≤_};
 ghost use lib.ListN.{length, drop};
-ghost use Rattle.timetable.specs.Answers.{refused, firstRefusal};
+ghost use Rattle.timetable.specs.Answers.{refused};
 ghost use Rattle.timetable.specs.File.{connections};
-ghost use Rattle.timetable.specs.Accepted.{Timetable};
-ghost use Rattle.timetable.specs.Check.{told as countsTold};
+ghost use Rattle.timetable.specs.Accepted.{Opened};
+ghost use Rattle.timetable.specs.Check.{toldCounts};
 ghost use Rattle.timetable.specs.declared.Verdict.the-variants.{Passed};
 ghost use Rattle.model.specs.Notices.{notice, rowsOf, entered, struck};
-ghost use Rattle.model.specs.Operations.{graphLength, graphFor, lengthsVerdict, contentsVerdict, outcome, built, posted, withdrawn};
+ghost use Rattle.model.specs.Operations.{graphLength, graphFor, lengthsVerdict, outcome, built, posted, withdrawn};
 ghost use Rattle.model.specs.Ready.{Ready};
 ghost use Rattle.notices.specs.Kept.{Kept};
-ghost use Rattle.times.specs.Times.{Opened, Standing};
-ghost use Rattle.graph.specs.Answers.{told};
+ghost use Rattle.times.specs.Times.{Standing};
+ghost use Rattle.graph.specs.Answers.{toldNumber};
 ghost use Rattle.graph.specs.Verdicts.{postingVerdict, withdrawalVerdict};
 ghost use Rattle.graph.specs.Written.{Written};
 use timetable::Checked;
@@ -25,9 +25,6 @@ const NO_NUMBER: u16 = 0;
 // How many notices may stand: `room`.
 const ROOM: u16 = 200;
 
-// The notice area's stated length: `noticesLength`.
-const NOTICES_LENGTH: usize = 601;
-
 // The shortest and the longest delay of a posting: `leastDelay` and `mostPosted`.
 const LEAST_DELAY: u16 = 1;
 
@@ -37,57 +34,6 @@ const MOST_POSTED: u16 = 1440;
 pub enum Noted {
     Accepted(u16),
     Refused(u16, u16),
-}
-
-// Refusals 21 and 22.
-pub fn lengths_verdict(file: &[u8], notices: &[u16], graph: &[u16]) -> Verdict
-    requires { ⌜ Timetable (now file) ⌝ }
-    ensures { λ r. ⌜ r ≡ lengthsVerdict (now (file .entry)) (now (notices .entry)) (now (graph .entry)) ⌝ }
-{
-    if notices.len() < NOTICES_LENGTH {
-        return Verdict::Refused(21, 0);
-    }
-    let s = timetable::stops(file) as usize;
-    let n = timetable::connections(file) as usize;
-    if graph.len() < 4 * n + s {
-        return Verdict::Refused(22, 0);
-    }
-    Verdict::Passed
-}
-
-// Refusals 23 and 24.
-pub fn contents_verdict(file: &[u8], notices: &[u16], graph: &[u16]) -> Verdict
-    requires { ⌜ Timetable (now file) × (lengthsVerdict (now file) (now notices) (now graph) ≡ Passed) ⌝ }
-    ensures { λ r. ⌜ r ≡ contentsVerdict (now (file .entry)) (now (notices .entry)) (now (graph .entry)) ⌝ }
-{
-    let stops = timetable::stops(file) as usize;
-    let connections = timetable::connections(file);
-    let verdict = notices::check_rows(notices, connections);
-    match verdict {
-        Verdict::Refused(number, place) => {
-            return Verdict::Refused(number, place);
-        }
-        Verdict::Passed => {}
-    }
-    if area::is_graph(file, stops, connections as usize, notices, graph) {
-        return Verdict::Passed;
-    }
-    Verdict::Refused(24, 0)
-}
-
-// Refusals 21 to 24.
-pub fn areas_verdict(file: &[u8], notices: &[u16], graph: &[u16]) -> Verdict
-    requires { ⌜ Timetable (now file) ⌝ }
-    ensures { λ r. ⌜ r ≡ firstRefusal (lengthsVerdict (now (file .entry)) (now (notices .entry)) (now (graph .entry)) ∷ contentsVerdict (now (file .entry)) (now (notices .entry)) (now (graph .entry)) ∷ []) ⌝ }
-{
-    let verdict = lengths_verdict(file, notices, graph);
-    match verdict {
-        Verdict::Refused(number, place) => {
-            return Verdict::Refused(number, place);
-        }
-        Verdict::Passed => {}
-    }
-    contents_verdict(file, notices, graph)
 }
 
 // Refusals 12, 13, 14, 25 and 26 of a posting, by the notices that stand.
@@ -183,7 +129,7 @@ fn strike_all(
 
 // The refusal of a file, as the answer of a posting or a withdrawal.
 fn refused(checked: Checked) -> Noted
-    ensures { λ r. ⌜ ((n p : ℕ) → countsTold checked ≡ refused n p → told r ≡ refused n p) ⌝ }
+    ensures { λ r. ⌜ ((n p : ℕ) → toldCounts checked ≡ refused n p → toldNumber r ≡ refused n p) ⌝ }
 {
     match checked {
         Checked::Accepted(_, _) => Noted::Refused(0, 0),
@@ -193,13 +139,13 @@ fn refused(checked: Checked) -> Noted
 
 // An empty notice area and the graph without notices.
 pub fn build(file: &[u8], notices: &mut [u16], graph: &mut [u16]) -> Checked
-    ensures { λ r. ⌜ outcome (countsTold r) (now (notices .exit)) (now (graph .exit)) ≡ built (now (file .entry)) (now (notices .entry)) (now (graph .entry)) ⌝ }
+    ensures { λ r. ⌜ outcome (toldCounts r) (now (notices .exit)) (now (graph .exit)) ≡ built (now (file .entry)) (now (notices .entry)) (now (graph .entry)) ⌝ }
 {
     let checked = timetable::check(file);
     let Checked::Accepted(stops, connections) = checked else {
         return checked;
     };
-    let verdict = lengths_verdict(file, notices, graph);
+    let verdict = checks::lengths_verdict(file, notices, graph);
     match verdict {
         Verdict::Refused(number, place) => {
             return Checked::Refused(number, place);
@@ -221,13 +167,13 @@ pub fn post(
     connection: u16,
     delay: u16,
 ) -> Noted
-    ensures { λ r. ⌜ outcome (told r) (now (notices .exit)) (now (graph .exit)) ≡ posted (now (file .entry)) (now (notices .entry)) (now (graph .entry)) number connection delay ⌝ }
+    ensures { λ r. ⌜ outcome (toldNumber r) (now (notices .exit)) (now (graph .exit)) ≡ posted (now (file .entry)) (now (notices .entry)) (now (graph .entry)) number connection delay ⌝ }
 {
     let checked = timetable::check(file);
     let Checked::Accepted(stops, connections) = checked else {
         return refused(checked);
     };
-    let areas = areas_verdict(file, notices, graph);
+    let areas = checks::areas_verdict(file, notices, graph);
     match areas {
         Verdict::Refused(refusal, place) => {
             return Noted::Refused(refusal, place);
@@ -249,13 +195,13 @@ pub fn post(
 
 // A notice withdrawn.
 pub fn withdraw(file: &[u8], notices: &mut [u16], graph: &mut [u16], number: u16) -> Noted
-    ensures { λ r. ⌜ outcome (told r) (now (notices .exit)) (now (graph .exit)) ≡ withdrawn (now (file .entry)) (now (notices .entry)) (now (graph .entry)) number ⌝ }
+    ensures { λ r. ⌜ outcome (toldNumber r) (now (notices .exit)) (now (graph .exit)) ≡ withdrawn (now (file .entry)) (now (notices .entry)) (now (graph .entry)) number ⌝ }
 {
     let checked = timetable::check(file);
     let Checked::Accepted(stops, connections) = checked else {
         return refused(checked);
     };
-    let areas = areas_verdict(file, notices, graph);
+    let areas = checks::areas_verdict(file, notices, graph);
     match areas {
         Verdict::Refused(refusal, place) => {
             return Noted::Refused(refusal, place);

@@ -19,7 +19,7 @@ use Rattle.model.specs.Ready.{networkBy}
 use Rattle.model.proofs.Least.{least-range, scan-none, scan-fails, scan-first, scan-wins, scan-loses, scan-done}
 use Rattle.model.proofs.Ready.{graph-room, arrival-read}
 use Rattle.journeys.specs.Search.{Searched, Better, Turn}
-use Rattle.journeys.proofs.Trail.{inside}
+use Rattle.model.proofs.Lists.{inside}
 
 -- the code's test of an entry
 module _ (w : List ℕ) (c : ℕ) (h : c < length w) where

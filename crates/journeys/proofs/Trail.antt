@@ -6,7 +6,6 @@ use mathlib.Core.Bool.{Bool, true, false, cond}
 use mathlib.Core.List.{List, [], _∷_, _++_, reverse, reverseAux, reverseAux-eq}
 use Prim.Native.Nat.{ℕ, zero, suc, _-_, _<_, _≤_}
 use native.Mathlib.Omega.{arith}
-use native.Mathlib.Nat.{le-of-suc-le-suc}
 use lib.ListN.{length, getD, drop, set}
 use lib.Seq.{drop-cons, getD-set-same, drop-set-lt, lt-length-set}
 use lib.Dec.{eqb}
@@ -14,17 +13,12 @@ use borrow.Author.Tests.{eq-eqb, ne-eqb}
 use Rattle.model.specs.Least.{none}
 use Rattle.model.specs.Network.{Network, Sound}
 use Rattle.model.specs.Predecessors.{predecessors, follow}
+use Rattle.model.proofs.Lists.{inside}
 use Rattle.model.proofs.Tests.{by-eq}
 use Rattle.model.proofs.Rank.{rank-below}
 use Rattle.model.proofs.Rounds.{length-predecessors}
 use Rattle.model.proofs.Journeys.{pred, place, Entry, itself, lowest, nothing, entry, later-place}
 use Rattle.journeys.specs.Trail.{Rooted, Trail}
-
--- within a list it does not matter what stands for its outside
-pub inside : (l : List ℕ) (i d e : ℕ) → i < length l → getD l i d ≡ getD l i e
-inside [] i d e h = absurd (omega arith)
-inside (x ∷ l) zero d e h = refl
-inside (x ∷ l) (suc i) d e h = inside l i d e (le-of-suc-le-suc h)
 
 follow-none : (w : List ℕ) (c : ℕ) → follow w 0 c ≡ []
 unfolding follow

@@ -13,9 +13,9 @@ use Rattle.journeys.specs.declared.Enquired.{Enquired}
 use Rattle.journeys.specs.declared.Enquired.the-variants.{Arrives, Refused}
 
 -- document 01's values and numbers of an enquiry's answer
-abbrev pub told : Enquired → Answer Arrival
-told (Arrives t n) = accepted (record { time = t; connections = n })
-told (Refused n p) = refused n p
+abbrev pub toldArrival : Enquired → Answer Arrival
+toldArrival (Arrives t n) = accepted (record { time = t; connections = n })
+toldArrival (Refused n p) = refused n p
 
 -- what reading a journey out of the predecessors in a work area answers
 abbrev pub readOut : Network → List ℕ → List ℕ → ℕ → ℕ → ℕ → Enquiry

@@ -13,7 +13,7 @@ ghost use Rattle.model.specs.Operations.{enquiry};
 ghost use Rattle.model.specs.Ready.{networkBy};
 ghost use Rattle.journeys.specs.Trail.{Trail};
 ghost use Rattle.journeys.specs.Search.{Searched, Turn, Better};
-ghost use Rattle.journeys.specs.Reading.{told, readOut, Reading};
+ghost use Rattle.journeys.specs.Reading.{toldArrival, readOut, Reading};
 
 // No connection.
 const NONE: u16 = 65535;
@@ -124,7 +124,7 @@ pub fn read_journey(
     time: u16,
 ) -> Enquired
     requires { ⌜ Reading (now file) (now notices) (now graph) (now work) (now journey) from time ⌝ }
-    ensures { λ r. ⌜ enquiry (told r) (now (work .entry)) (now (journey .exit)) ≡ readOut (networkBy (now (file .entry)) (now (notices .entry))) (now (work .entry)) (now (journey .entry)) from to time ⌝ }
+    ensures { λ r. ⌜ enquiry (toldArrival r) (now (work .entry)) (now (journey .exit)) ≡ readOut (networkBy (now (file .entry)) (now (notices .entry))) (now (work .entry)) (now (journey .entry)) from to time ⌝ }
 {
     if from == to {
         return Enquired::Arrives(time, 0);

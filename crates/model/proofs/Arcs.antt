@@ -4,13 +4,13 @@ use mathlib.Core.Path.{_≡_, sym}
 use mathlib.Core.Logic.{inl, inr, ⊎-elim}
 use Prim.Native.Nat.{ℕ, suc, _<_, _≤_}
 use native.Mathlib.Omega.{arith}
-use Rattle.model.specs.Least.{none, key, rank}
+use Rattle.model.specs.Least.{none, rank}
 use Rattle.model.specs.Network.{Network, Sound}
 use Rattle.model.specs.Graph.{waiting, transfer, Node, Arc, connection, aboard, wait, change, Forward}
 use Rattle.model.proofs.Tests.{by-lt}
-use Rattle.model.proofs.Rank.{rank-less, rank-le}
+use Rattle.model.proofs.Rank.{rank-less}
 use Rattle.model.proofs.Follows.{Change}
-use Rattle.model.proofs.Boards.{Listed, Behind, waiting-listed, transfer-listed, entry-holds, entry-at, entry-first}
+use Rattle.model.proofs.Boards.{Behind, waiting-listed, transfer-listed, entry-holds, entry-at}
 
 -- c's place in the order of departures
 abbrev pub placeOf : Network → ℕ → ℕ
@@ -24,12 +24,6 @@ pub record Waits (net : Network) (c w : ℕ) : Type 0 where
   pub time : net .departure c ≤ net .departure w
 
 module _ (net : Network) (sound : Sound net) where
-  -- where P holds of d, the entry's place is not after that of d
-  foremost-place : {P : ℕ → Type 0} {r : ℕ} → Listed net P r → (d : ℕ) → d < net .connections → P d → (r < net .connections) × (placeOf net r ≤ placeOf net d)
-  foremost-place {P} {r} l d h p =
-      let f = entry-first net sound l d h p in
-      (f .0, rank-le (net .departure) (net .connections) (omega (arith, sound .few)) r d (f .0) h (f .1))
-
   module _ (c : ℕ) (h : c < net .connections) where
     -- a waiting entry is of the same stop and later
     pub waits : waiting net c < none → Waits net c (waiting net c)
@@ -42,18 +36,9 @@ module _ (net : Network) (sound : Sound net) where
           time = omega (arith, sound .few);
         }
 
-    -- and no departure that is such stands before it
-    pub waits-first : (d : ℕ) → d < net .connections → net .from d ≡ net .from c → key (net .departure) c < key (net .departure) d
-        → (waiting net c < net .connections) × (placeOf net (waiting net c) ≤ placeOf net d)
-    waits-first d k s l = foremost-place (waiting-listed net sound c) d k (s, l)
-
     -- one can change to a transfer entry
     pub moves : transfer net c < none → (transfer net c < net .connections) × Change net c (transfer net c)
     moves l = entry-holds net sound (transfer-listed net sound c) l
-
-    -- and no departure that one can change to stands before it
-    pub moves-first : (d : ℕ) → d < net .connections → Change net c d → (transfer net c < net .connections) × (placeOf net (transfer net c) ≤ placeOf net d)
-    moves-first d k s = foremost-place (transfer-listed net sound c) d k s
 
   -- every arc leads forward
   pub arcs-forward : (x y : Node) → Arc net x y → Forward net x y

@@ -1,7 +1,7 @@
 -- What the entries of the graph are: of the departures of a board of which something holds, the first by expected departure
 -- and then number, or none. Assumes nothing.
 use mathlib.Core.Path.{_≡_, refl, _∙_, ap}
-use mathlib.Core.Logic.{_⊎_, inl, inr}
+use mathlib.Core.Logic.{inl, inr}
 use mathlib.Core.Bool.{Bool, true, _&&_}
 use Prim.Native.Nat.{ℕ, _<_, _≤_}
 use native.Mathlib.Omega.{arith}
@@ -61,16 +61,6 @@ module _ (net : Network) (sound : Sound net) where
   first-listed s = on-board-means s _ _ (λ d p q. p) (λ d p. (p, refl))
 
   module _ {P : ℕ → Type 0} {r : ℕ} where
-    -- an entry is none or a connection
-    pub entry-range : Listed net P r → (r ≡ none) ⊎ (r < net .connections)
-    entry-range (nobody q f) = inl q
-    entry-range (foremost h p f) = inr h
-
-    -- an entry fits a number of the graph area
-    pub entry-small : Listed net P r → r < 65536
-    entry-small (nobody q f) = omega arith
-    entry-small (foremost h p f) = omega (arith, sound .few)
-
     -- an entry that is a connection is one of which P holds
     pub entry-holds : Listed net P r → r < none → (r < net .connections) × P r
     entry-holds (nobody q f) l = absurd (omega arith)

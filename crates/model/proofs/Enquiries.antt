@@ -1,13 +1,13 @@
 -- What an enquiry's answer means: an answer is the best journey, refusal 30 that there is none. Assumes nothing.
-use mathlib.Core.Path.{_≡_, refl, sym, _∙_, ap}
-use mathlib.Core.Logic.{_⊎_, inl, inr, ⊎-elim}
+use mathlib.Core.Path.{_≡_, refl, sym}
+use mathlib.Core.Logic.{_⊎_, ⊎-elim}
 use mathlib.Core.Bool.{Bool, true, false, not, _||_}
 use mathlib.Core.List.{List, [], _∷_, _++_}
 use Prim.Native.Nat.{ℕ, _≤_}
 use native.Mathlib.Omega.{arith}
 use lib.Dec.{ltb, leb}
 use lib.ListN.{length, take, drop}
-use Rattle.timetable.specs.Answers.{Answer, accepted, refused, refuseIf, orElse, firstRefusal}
+use Rattle.timetable.specs.Answers.{accepted, refused, refuseIf, orElse, firstRefusal}
 use Rattle.timetable.specs.File.{stops, connections}
 use Rattle.timetable.specs.Check.{fileVerdict}
 use Rattle.timetable.specs.Refusals.{FileRefusal, no-header, wrong-mark, wrong-version, wrong-stop-count, wrong-connection-count, wrong-length, wrong-transfer, wrong-stops, wrong-trip, wrong-times, wrong-join}
@@ -20,7 +20,7 @@ use Rattle.model.specs.Journeys.{arrives}
 use Rattle.model.specs.Predecessors.{predecessors, nowhere, journeyIn}
 use Rattle.model.specs.Operations.{same, graphLength, graphFor, lengthsVerdict, contentsVerdict, Arrival, answered, searched, enquired}
 use Rattle.model.specs.Ready.{networkBy, Ready}
-use Rattle.model.specs.Meaning.{Journey, Means}
+use Rattle.model.specs.Meaning.{Means}
 use Rattle.model.proofs.Verdicts.{else-passed, else-refused, if-refused, passed-not-refused}
 use Rattle.model.proofs.Rows.{rows-place}
 use Rattle.model.proofs.Journeys.{nowhere-iff, journey-best}

@@ -15,6 +15,7 @@ use Rattle.timetable.specs.File.{stops, connections, from, to}
 use Rattle.timetable.specs.Check.{fileVerdict, countsOf}
 use Rattle.timetable.specs.declared.Verdict.{Verdict}
 use Rattle.timetable.specs.declared.Verdict.the-variants.{Passed, Refused}
+use Rattle.timetable.proofs.Order.{else-assoc}
 use Rattle.model.specs.Notices.{Notice, notice, width, room, noticesLength, leastDelay, mostPosted, areaOf, cut, rowsOf, stands, entered, struck, rowsVerdict}
 use Rattle.model.specs.Network.{Network, Sound, lastExpected}
 use Rattle.model.specs.Times.{networkOf}
@@ -52,11 +53,6 @@ covers-decides k need area h =
     (λ (l : length area < need). rw (lt-ltb (length area) need l, lt-ltb (min k (length area)) need (omega arith)))
     (λ (l : need ≤ length area). rw (le-ltb (length area) need l, le-ltb (min k (length area)) need (omega arith)))
     (by-lt (length area) need))
-
--- three verdicts in order
-else-assoc : (u v w : Verdict) → orElse (orElse u v) w ≡ orElse u (orElse v w)
-else-assoc Passed v w = refl
-else-assoc (Refused n p) v w = refl
 
 -- what comes after a verdict matters where it passes
 else-same : (v : Verdict) {w w′ : Verdict} → (v ≡ Passed → w ≡ w′) → orElse v w ≡ orElse v w′

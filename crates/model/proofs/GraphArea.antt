@@ -1,8 +1,8 @@
 -- Reading the parts of the graph area, alone or with anything behind it. Assumes nothing.
-use mathlib.Core.Path.{_≡_, refl, _∙_, ap}
+use mathlib.Core.Path.{_≡_, refl, _∙_}
 use mathlib.Core.Logic.{⊎-elim}
 use mathlib.Core.List.{List, [], _∷_, _++_}
-use Prim.Native.Nat.{ℕ, zero, suc, _+_, _*_, _<_, _≤_}
+use Prim.Native.Nat.{ℕ, zero, suc, _+_, _*_, _<_}
 use native.Mathlib.Omega.{arith}
 use lib.ListN.{length, getD, length-append, List·getD-append}
 use lib.Seq.{getD-append-add}
@@ -65,7 +65,7 @@ module _ (net : Network) where
   in-two : (i : ℕ) → i < 3 * n → getD (graphOf net) i 0 ≡ getD two i 0
   in-two i h = in-three i (omega arith) ∙ ahead two (tab (transfer net) n) (3 * n) i length-two h
 
-  in-times : (i : ℕ) → i < 2 * n → getD (graphOf net) i 0 ≡ getD (times net n) i 0
+  pub in-times : (i : ℕ) → i < 2 * n → getD (graphOf net) i 0 ≡ getD (times net n) i 0
   in-times i h = in-two i (omega arith) ∙ ahead (times net n) (tab (waiting net) n) (2 * n) i (length-times n) h
 
   module _ (c : ℕ) (h : c < net .connections) where

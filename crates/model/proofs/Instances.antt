@@ -1,10 +1,10 @@
 -- Document 01's starred instances on example J, as rows of one table under one claim, through the definitions of the
 -- operations. Each row has what the definitions give and what document 01 says. Assumes nothing.
 use mathlib.Core.Path.{_≡_, refl}
-use mathlib.Core.Bool.{Bool, true, false, _&&_}
+use mathlib.Core.Bool.{Bool, true, _&&_}
 use mathlib.Core.List.{List, [], _∷_}
 use Prim.Native.Nat.{ℕ, _*_}
-use lib.ListN.{getD, take, drop, replicate}
+use lib.ListN.{take, drop, replicate}
 use Rattle.timetable.specs.Answers.{Answer, accepted, refused, firstBelow}
 use Rattle.timetable.specs.File.{transferTime, trip, from, to, scheduledDeparture, scheduledArrival, staysAboard}
 use Rattle.timetable.specs.Check.{headerVerdict, stopVerdict, wrongStops, wrongTrip, wrongTimes, wrongJoin, connectionVerdict, fileVerdict}

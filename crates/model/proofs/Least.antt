@@ -2,11 +2,11 @@
 use mathlib.Core.Path.{_≡_, refl, sym, _∙_}
 use mathlib.Core.Logic.{_⊎_, inl, inr, ⊎-elim}
 use mathlib.Core.Bool.{Bool, true, false, cond, _&&_, _||_, true≢false}
-use Prim.Native.Nat.{ℕ, zero, suc, _+_, _*_, _<_, _≤_}
+use Prim.Native.Nat.{ℕ, zero, suc, _<_, _≤_}
 use native.Mathlib.Omega.{arith}
 use borrow.Author.Tests.{lt-ltb, le-ltb, eq-eqb, ne-eqb}
 use lib.Dec.{ltb, eqb}
-use Rattle.model.specs.Least.{none, key, leastBelow, Found, Nobody, Least}
+use Rattle.model.specs.Least.{none, key, leastBelow, Least}
 use Rattle.model.proofs.Tests.{by-lt, by-bool, one-more}
 
 module _ (test : ℕ → Bool) (time : ℕ → ℕ) where

@@ -1,6 +1,7 @@
 pub mod Tests
 pub mod Tab
 pub mod Least
+pub mod Places
 pub mod Rank
 pub mod Verdicts
 pub mod Lists

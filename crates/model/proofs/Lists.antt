@@ -1,8 +1,9 @@
--- Two lists compared number by number. Assumes nothing.
+-- Two lists compared number by number, and a list read. Assumes nothing.
 use mathlib.Core.Path.{_≡_, refl}
 use mathlib.Core.Bool.{Bool, true, false}
 use mathlib.Core.List.{List, [], _∷_}
-use Prim.Native.Nat.{ℕ, _+_, _<_}
+use Prim.Native.Nat.{ℕ, zero, suc, _+_, _<_}
+use native.Mathlib.Nat.{le-of-suc-le-suc}
 use native.Mathlib.Numerals.{add-one}
 use native.Mathlib.Omega.{arith}
 use borrow.Author.Tests.{eq-eqb, ne-eqb, eqb-true}
@@ -51,3 +52,9 @@ same-end xs ys i e l =
     let p : drop i xs ≡ [] = rw e (drop-length xs) in
     let q : drop i ys ≡ [] = rw f (drop-length ys) in
     rw (p, q)
+
+-- within a list it does not matter what stands for its outside
+pub inside : (l : List ℕ) (i d e : ℕ) → i < length l → getD l i d ≡ getD l i e
+inside [] i d e h = absurd (omega arith)
+inside (x ∷ l) zero d e h = refl
+inside (x ∷ l) (suc i) d e h = inside l i d e (le-of-suc-le-suc h)

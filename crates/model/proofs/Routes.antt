@@ -11,6 +11,7 @@ use Rattle.model.specs.Graph.{waiting, transfer, Node, departureOf, arri
 use Rattle.model.specs.Journeys.{canBeFirst, canFollow, Ends, first, next, Route, start, onto, along}
 use Rattle.model.proofs.Tests.{by-lt}
 use Rattle.model.proofs.Follows.{first-means, first-test, Aboard, Change, follow-means, change-follows, aboard-follows}
+use Rattle.model.proofs.Journeys.{in-range}
 use Rattle.model.proofs.Boards.{Behind, waiting-listed, transfer-listed, entry-at, entry-first}
 
 module _ (net : Network) (sound : Sound net) (a t : ℕ) where
@@ -80,11 +81,6 @@ module _ (net : Network) (sound : Sound net) (a t : ℕ) where
   stay-on : (e c : ℕ) (js : List ℕ) → c < net .connections → Aboard net e c → Route net a t (arrivalOf e) js → Route net a t (arrivalOf c) (c ∷ js)
   stay-on e c js h b r = rw (b .1) (onto r (aboard (rw (b .1) at h) (rw (b .1) at (b .0))))
 
-  -- a journey's last connection is one
-  last-within : {c : ℕ} {js : List ℕ} → Ends net a t (c ∷ js) → c < net .connections
-  last-within (first h q) = h
-  last-within (next h q e) = h
-
   -- every journey is a route
   is-route : {c : ℕ} {js : List ℕ} → Ends net a t (c ∷ js) → Route net a t (arrivalOf c) (c ∷ js)
   is-route (first {c} h q) = let f = first-means net a t c q in onto (start h (f .0) (f .1)) (connection h)
@@ -92,7 +88,7 @@ module _ (net : Network) (sound : Sound net) (a t : ℕ) where
       let m = follow-means net e c q in
       ⊎-elim
       (λ b. stay-on e c (e ∷ js) h b (is-route r))
-      (λ l. onto (change-to e c (e ∷ js) (last-within r) h (m .0, l) (is-route r)) (connection h))
+      (λ l. onto (change-to e c (e ∷ js) (in-range net a t r) h (m .0, l) (is-route r)) (connection h))
       (m .1)
 
   -- a list of connections is a journey exactly if a route to the arrival of its last one has it

@@ -16,9 +16,8 @@ use Rattle.timetable.specs.Check.{fileVerdict, Counts, countsOf}
 use Rattle.timetable.specs.declared.Verdict.{Verdict}
 use Rattle.timetable.specs.declared.Verdict.the-variants.{Passed, Refused}
 use Rattle.model.specs.Notices.{Notice, notice, room, noticesLength, leastDelay, mostPosted, areaOf, rowsOf, stands, entered, struck, WellFormed}
-use Rattle.model.specs.Network.{Network, Sound, lastExpected}
+use Rattle.model.specs.Network.{Network, lastExpected}
 use Rattle.model.specs.Times.{networkOf}
-use Rattle.model.specs.Graph.{graphOf, graphSize, Node, Arc, Forward}
 use Rattle.model.specs.Predecessors.{predecessors, nowhere, journeyIn}
 use Rattle.model.specs.Operations.{graphLength, graphFor, lengthsVerdict, contentsVerdict, Outcome, outcome, concluded, built, posted, withdrawn, answered, searched, enquired}
 use Rattle.model.specs.Register.{Call, posting, withdrawal, Step, refuse, accept, registerStep, Kept, kept}

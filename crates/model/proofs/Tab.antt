@@ -1,11 +1,11 @@
 -- The list of what a function gives. Assumes nothing.
 use mathlib.Core.Path.{_≡_, refl, _∙_}
 use mathlib.Core.Logic.{⊎-elim}
-use mathlib.Core.List.{List, [], _∷_, _++_}
-use Prim.Native.Nat.{ℕ, zero, suc, _+_, _-_, _<_, _≤_}
+use mathlib.Core.List.{List, [], _∷_}
+use Prim.Native.Nat.{ℕ, zero, suc, _-_, _<_}
 use native.Mathlib.Omega.{arith}
-use lib.ListN.{length, getD, take, drop, length-append, List·getD-append, List·getD-eq-default}
-use lib.Seq.{getD-at, ext-getD, length-take-le}
+use lib.ListN.{length, getD, length-append, List·getD-append}
+use lib.Seq.{getD-at, ext-getD}
 use Rattle.model.specs.Least.{tab}
 use Rattle.model.proofs.Tests.{by-last}
 
@@ -22,9 +22,6 @@ getD-tab f (suc n) i d h =
     (λ (l : i < n). List·getD-append (tab f n) (f n ∷ []) d i (rw (length-tab f n) l) ∙ getD-tab f n i d l)
     (λ q. rw q (getD-at (tab f n) (f n) [] d n (length-tab f n)))
     (by-last h)
-
-pub getD-past : (f : ℕ → ℕ) (n i d : ℕ) → n ≤ i → getD (tab f n) i d ≡ d
-getD-past f n i d h = List·getD-eq-default (tab f n) d (rw (length-tab f n) h)
 
 -- a list that agrees with f is its table
 pub tab-is : (f : ℕ → ℕ) (n d : ℕ) (w : List ℕ) → length w ≡ n → ((i : ℕ) → i < n → getD w i d ≡ f i) → w ≡ tab f n

@@ -7,7 +7,7 @@ use lib.Dec.{ltb, leb, eqb}
 use lib.ListN.{length, getD, drop, replicate}
 use Rattle.timetable.specs.Answers.{refuseIf, orElse}
 use Rattle.timetable.specs.declared.Verdict.{Verdict}
-use Rattle.timetable.specs.declared.Verdict.the-variants.{Passed, Refused}
+use Rattle.timetable.specs.declared.Verdict.the-variants.{Passed}
 
 -- the numbers of one row
 abbrev pub width : ℕ

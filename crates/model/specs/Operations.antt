@@ -6,7 +6,7 @@ use mathlib.Core.List.{List, [], _∷_, _++_, reverse}
 use Prim.Native.Nat.{ℕ, _+_}
 use lib.Dec.{ltb, leb, eqb}
 use lib.IntN.{ℤ}
-use lib.ListN.{length, take, drop, replicate}
+use lib.ListN.{length, take, drop}
 use Rattle.timetable.specs.Answers.{Answer, accepted, refused, refuseIf, firstRefusal, answering}
 use Rattle.timetable.specs.File.{stops, connections, from, to}
 use Rattle.timetable.specs.Check.{fileVerdict, Counts, countsOf}
@@ -47,6 +47,10 @@ contentsVerdict f notices graph =
     (rowsVerdict (connections f) notices ∷
     refuseIf (not (same (take (graphLength f) graph) (graphFor f (rowsOf notices)))) 24 0 ∷
     [])
+
+-- refusals 21 to 24
+abbrev pub areasVerdict : List ℕ → List ℕ → List ℕ → Verdict
+areasVerdict f notices graph = firstRefusal (lengthsVerdict f notices graph ∷ contentsVerdict f notices graph ∷ [])
 
 -- an answer, and the notice area and the graph area afterwards
 pub record Outcome (A : Type 0) : Type 0 where

@@ -1,4 +1,4 @@
--- The order of departures that the graph layer hands to the search. Assumes nothing.
+-- The order of departures that the search goes by. Assumes nothing.
 use mathlib.Core.Path.{_≡_}
 use mathlib.Core.List.{List}
 use mathlib.Core.Logic.{_⊎_}

@@ -1,6 +1,6 @@
 -- The register of notices (document 01: the book): what a clerk would keep, fed the connection count and the calls' own
 -- numbers. Assumes nothing.
-use mathlib.Core.Bool.{Bool, cond, not, _&&_}
+use mathlib.Core.Bool.{cond, not, _&&_}
 use mathlib.Core.List.{List, [], _∷_}
 use Prim.Native.Nat.{ℕ}
 use lib.Dec.{leb, eqb}

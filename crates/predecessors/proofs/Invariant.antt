@@ -25,7 +25,7 @@ use Rattle.model.proofs.Boards.{Behind, waiting-listed, transfer-listed, entry-
 use Rattle.model.proofs.Rounds.{length-predecessors, numbered}
 use Rattle.model.proofs.Journeys.{pred, Before, Entry, itself, lowest, nothing, entry}
 use Rattle.predecessors.specs.Visits.{settled, visited, turned}
-use Rattle.predecessors.proofs.Places.{Rises, place-early, place-order, place-le, place-same}
+use Rattle.model.proofs.Places.{Rises, place-early, place-order, place-le, place-same}
 use Rattle.predecessors.proofs.Steps.{aboard-positive, turn-visits, turn-skips}
 use Rattle.predecessors.proofs.Visited.{Turn, visited-turn}
 

@@ -1,11 +1,10 @@
 -- The steps of the code, in terms of lists: an offer, the entry that a connection gets, a visit and a turn. Assumes nothing.
-use mathlib.Core.Path.{_≡_, refl, sym, _∙_}
+use mathlib.Core.Path.{_≡_, sym, _∙_}
 use mathlib.Core.Logic.{⊎-elim}
 use mathlib.Core.Bool.{true, false, false≢true}
-use mathlib.Core.List.{List, [], _∷_}
-use Prim.Native.Nat.{ℕ, zero, suc, _-_, min, _<_, _≤_}
+use mathlib.Core.List.{List, []}
+use Prim.Native.Nat.{ℕ, _-_, min, _<_, _≤_}
 use native.Mathlib.Omega.{arith}
-use native.Mathlib.Nat.{le-of-suc-le-suc}
 use borrow.Author.Tests.{lt-ltb, le-ltb}
 use lib.Dec.{ltb}
 use lib.ListN.{length, getD, set, length-set}
@@ -14,14 +13,9 @@ use Rattle.model.specs.Least.{none}
 use Rattle.model.specs.Network.{Network, Sound}
 use Rattle.model.specs.Graph.{waiting, transfer}
 use Rattle.model.specs.Journeys.{canBeFirst}
+use Rattle.model.proofs.Lists.{inside}
 use Rattle.model.proofs.Tests.{by-lt, by-bool}
 use Rattle.predecessors.specs.Visits.{offered, settled, passed, visited, turned}
-
--- within a list it does not matter what stands for its outside
-pub inside : (l : List ℕ) (i d e : ℕ) → i < length l → getD l i d ≡ getD l i e
-inside [] i d e h = absurd (omega arith)
-inside (x ∷ l) zero d e h = refl
-inside (x ∷ l) (suc i) d e h = inside l i d e (le-of-suc-le-suc h)
 
 -- an offer as the code makes it
 module _ (l : List ℕ) (x e : ℕ) where

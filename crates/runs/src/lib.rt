@@ -1,10 +1,10 @@
 // Whole runs: building, then a list of postings and withdrawals.
 ghost use mathlib.Core.Path.{_≡_};
 ghost use Prim.Native.Nat.{min};
-ghost use Rattle.timetable.specs.Check.{told};
+ghost use Rattle.timetable.specs.Check.{toldCounts};
 ghost use Rattle.model.specs.Operations.{outcome};
 ghost use Rattle.model.specs.Runs.{worked, ran};
-ghost use Rattle.graph.specs.Answers.{told as notedTold};
+ghost use Rattle.graph.specs.Answers.{toldNumber};
 ghost use Rattle.runs.specs.Calls.{callOf, worksOf, numberOf, valueOf};
 ghost use Rattle.runs.specs.Ended.{Ended};
 ghost use Rattle.runs.specs.Worked.{Worked};
@@ -39,7 +39,7 @@ fn work_call(
     connection: u16,
     delay: u16,
 ) -> Noted
-    ensures { λ r. ⌜ outcome (notedTold r) (now (notices .exit)) (now (graph .exit)) ≡ worked (now (file .entry)) (now (notices .entry)) (now (graph .entry)) (callOf kind number connection delay) ⌝ }
+    ensures { λ r. ⌜ outcome (toldNumber r) (now (notices .exit)) (now (graph .exit)) ≡ worked (now (file .entry)) (now (notices .entry)) (now (graph .entry)) (callOf kind number connection delay) ⌝ }
 {
     if kind == POSTING {
         return graph::post(file, notices, graph, number, connection, delay);
@@ -49,7 +49,7 @@ fn work_call(
 
 // The first number of an answer: 0, or the refusal's number.
 fn number_of(noted: Noted) -> u16
-    ensures { λ r. ⌜ r ≡ numberOf (notedTold noted) ⌝ }
+    ensures { λ r. ⌜ r ≡ numberOf (toldNumber noted) ⌝ }
 {
     match noted {
         Noted::Accepted(_) => 0,
@@ -59,7 +59,7 @@ fn number_of(noted: Noted) -> u16
 
 // The second number of an answer: the notice's number, or the refusal's place.
 fn value_of(noted: Noted) -> u16
-    ensures { λ r. ⌜ r ≡ valueOf (notedTold noted) ⌝ }
+    ensures { λ r. ⌜ r ≡ valueOf (toldNumber noted) ⌝ }
 {
     match noted {
         Noted::Accepted(number) => number,
@@ -99,7 +99,7 @@ pub fn run(
     calls: &[u16],
     answers: &mut [u16],
 ) -> Checked
-    ensures { λ r. ⌜ Worked (now (file .entry)) (now (notices .entry)) (now (graph .entry)) (now (calls .entry)) (now (answers .entry)) (told r) (now (notices .exit)) (now (graph .exit)) (now (answers .exit)) ⌝ }
+    ensures { λ r. ⌜ Worked (now (file .entry)) (now (notices .entry)) (now (graph .entry)) (now (calls .entry)) (now (answers .entry)) (toldCounts r) (now (notices .exit)) (now (graph .exit)) (now (answers .exit)) ⌝ }
 {
     let building = graph::build(file, notices, graph);
     match building {

@@ -24,10 +24,11 @@ use Rattle.departures.specs.Order.{minutes}
 use Rattle.departures.proofs.Sorting.{ordered-same}
 use Rattle.predecessors.specs.Sweepable.{Sweepable}
 use Rattle.journeys.specs.Reading.{readOut, Reading}
+use Rattle.timetable.proofs.Order.{else-assoc}
 use Rattle.search.specs.Answered.{Answered}
 use Rattle.search.specs.Verdicts.{roomVerdict, askedVerdict}
 use Rattle.search.specs.Given.{Fitting, Searchable}
-use Rattle.search.proofs.Verdicts.{else-assoc, room-passed}
+use Rattle.search.proofs.Verdicts.{room-passed}
 
 module _ (f notices graph work journey : List ℕ) (s : ℕ) where
   -- what is known once the lengths have passed

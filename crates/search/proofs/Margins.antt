@@ -7,19 +7,20 @@ use lib.ListN.{length}
 use Rattle.timetable.specs.Answers.{refused, orElse, answering}
 use Rattle.timetable.specs.File.{connections, transferTime, to}
 use Rattle.timetable.specs.Room.{HasStop}
+use Rattle.timetable.specs.Accepted.{Opened}
 use Rattle.timetable.specs.Check.{fileVerdict}
 use Rattle.timetable.specs.declared.Verdict.the-variants.{Passed, Refused}
 use Rattle.timetable.proofs.Accepted.{accepted-iff, room-for-stop}
-use Rattle.timetable.proofs.Order.{else-passed}
+use Rattle.timetable.proofs.Order.{else-passed, else-assoc}
 use Rattle.model.specs.Times.{networkOf}
 use Rattle.model.specs.Graph.{departureIn, arrivalIn}
 use Rattle.model.specs.Margin.{marginBetween, marginOf}
-use Rattle.model.specs.Operations.{lengthsVerdict, contentsVerdict, margined}
+use Rattle.model.specs.Operations.{lengthsVerdict, contentsVerdict, margined, areasVerdict}
 use Rattle.model.specs.Ready.{networkBy}
 use Rattle.model.proofs.Ready.{ready-by, graph-room, departure-read, arrival-read}
-use Rattle.search.specs.Verdicts.{areasVerdict, changeVerdict}
-use Rattle.search.specs.Given.{Counted, Changing}
-use Rattle.search.proofs.Verdicts.{else-assoc, change-passed}
+use Rattle.search.specs.Verdicts.{changeVerdict}
+use Rattle.search.specs.Given.{Changing}
+use Rattle.search.proofs.Verdicts.{change-passed}
 
 module _ (f notices graph : List ℕ) (c d : ℕ) where
   -- a file that is refused
@@ -34,14 +35,14 @@ module _ (f notices graph : List ℕ) (c d : ℕ) where
   margined-parts e = rw e (simp else-assoc)
 
   -- what is known once all checks have passed
-  pub changing : (s n : ℕ) → Counted f s n → areasVerdict f notices graph ≡ Passed → changeVerdict f c d ≡ Passed → Changing f notices graph s c d
+  pub changing : (s n : ℕ) → Opened f s n → areasVerdict f notices graph ≡ Passed → changeVerdict f c d ≡ Passed → Changing f notices graph s c d
   changing s n p x y =
       let l = else-passed (lengthsVerdict f notices graph) _ .0 x in
       let k = else-passed (contentsVerdict f notices graph) Passed .0 (l .1) in
       let h = change-passed f c d y in
       record {
         ready = ready-by f notices graph (accepted-iff f .1 (p .timetable)) (l .0) (k .0);
-        stop-count = p .stop-count;
+        stop-count = p .stops;
         first-below = h .0;
         second-below = h .1;
       }

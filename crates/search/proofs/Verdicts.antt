@@ -1,46 +1,20 @@
 -- The verdicts of the operations' parts: when each is which refusal, and what it tells where it passes. Assumes nothing.
-use mathlib.Core.Path.{_≡_, refl, sym, _∙_, ap}
+use mathlib.Core.Path.{_≡_, refl, sym, _∙_}
 use mathlib.Core.Bool.{not, _||_}
 use mathlib.Core.List.{List}
 use Prim.Native.Nat.{ℕ, _<_, _≤_}
 use native.Mathlib.Omega.{arith}
 use lib.Dec.{ltb, leb, eqb}
 use lib.ListN.{length}
-use Rattle.timetable.specs.Answers.{refuseIf, orElse}
+use Rattle.timetable.specs.Answers.{refuseIf}
 use Rattle.timetable.specs.File.{connections, from, to}
-use Rattle.timetable.specs.Check.{fileVerdict, Counts, checkedAnswer, told}
-use Rattle.timetable.specs.declared.Verdict.{Verdict}
 use Rattle.timetable.specs.declared.Verdict.the-variants.{Passed, Refused}
-use Rattle.timetable.specs.declared.Checked.{Checked}
 use Rattle.timetable.specs.declared.Checked.the-variants as C
 use Rattle.timetable.proofs.Tests.{below, at-most, unequal, either}
 use Rattle.timetable.proofs.Order.{else-passed, Rule, rule, pass, stop, passes}
-use Rattle.timetable.proofs.Refusals.{refused-iff}
-use Rattle.timetable.proofs.Answered.{answered-accepted, answered-refused}
 use Rattle.model.specs.Network.{lastExpected}
 use Rattle.model.specs.Operations.{lengthsVerdict}
 use Rattle.search.specs.Verdicts.{roomVerdict, requestVerdict, changeVerdict}
-use Rattle.search.specs.Given.{Counted}
-
--- the first of three refusals, however they are grouped
-pub else-assoc : (u v w : Verdict) → orElse (orElse u v) w ≡ orElse u (orElse v w)
-else-assoc Passed v w = refl
-else-assoc (Refused n p) v w = refl
-
-module _ (f : List ℕ) (k : Checked) (e : told k ≡ checkedAnswer f) where
-  -- a file that is refused
-  pub file-refused : (n p : ℕ) → k ≡ C.Refused n p → fileVerdict f ≡ Refused n p
-  file-refused n p q = refused-iff f n p .1 (answered-refused f n p (rw q at e))
-
-  -- a file that is accepted, with its counts
-  pub file-counted : (s n : ℕ) → k ≡ C.Accepted s n → Counted f s n
-  file-counted s n q =
-      let h = answered-accepted f (record { stops = s; connections = n }) (rw q at e) in
-      record {
-        timetable = h .0;
-        stop-count = ap (λ (x : Counts). x .stops) (h .1);
-        connection-count = ap (λ (x : Counts). x .connections) (h .1);
-      }
 
 -- areas that are long enough
 pub room-passed : (f notices graph work journey : List ℕ) → roomVerdict f notices graph work journey ≡ Passed

@@ -14,12 +14,6 @@ pub record Numbered (f : List ℕ) (n : ℕ) : Type 0 where
   pub timetable : Timetable f
   pub connection-count : n ≡ connections f
 
--- an accepted timetable and its counts
-pub record Counted (f : List ℕ) (s n : ℕ) : Type 0 where
-  pub timetable : Timetable f
-  pub stop-count : s ≡ stops f
-  pub connection-count : n ≡ connections f
-
 -- an accepted timetable of s stops, and areas of the stated lengths
 pub record Fitting (f notices graph work journey : List ℕ) (s : ℕ) : Type 0 where
   pub timetable : Timetable f

@@ -27,10 +27,6 @@ requestVerdict s a b t = firstRefusal (refuseIf (leb s a || leb s b) 15 0 ∷ re
 abbrev pub askedVerdict : List ℕ → List ℕ → List ℕ → ℕ → ℕ → ℕ → Verdict
 askedVerdict f notices graph a b t = orElse (contentsVerdict f notices graph) (requestVerdict (stops f) a b t)
 
--- refusals 21 to 24
-abbrev pub areasVerdict : List ℕ → List ℕ → List ℕ → Verdict
-areasVerdict f notices graph = firstRefusal (lengthsVerdict f notices graph ∷ contentsVerdict f notices graph ∷ [])
-
 -- refusals 13 and 17
 abbrev pub changeVerdict : List ℕ → ℕ → ℕ → Verdict
 changeVerdict f c d =

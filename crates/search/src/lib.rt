@@ -2,16 +2,17 @@
 ghost use mathlib.Core.Path.{_≡_};
 ghost use Prim.Native.Nat.{ℕ};
 ghost use Rattle.timetable.specs.Answers.{refused, orElse, answering};
+ghost use Rattle.timetable.specs.Accepted.{Opened};
 ghost use Rattle.timetable.specs.declared.Checked.the-variants.{Refused};
 ghost use Rattle.timetable.specs.declared.Verdict.the-variants.{Passed};
 ghost use Rattle.model.specs.Margin.{marginBetween, marginOf};
-ghost use Rattle.model.specs.Operations.{enquiry, searched, margined};
+ghost use Rattle.model.specs.Operations.{enquiry, searched, margined, areasVerdict};
 ghost use Rattle.model.specs.Ready.{networkBy};
-ghost use Rattle.journeys.specs.Reading.{told};
+ghost use Rattle.journeys.specs.Reading.{toldArrival};
 ghost use Rattle.search.specs.Answered.{Answered};
 ghost use Rattle.search.specs.Margin.{toldMargin};
-ghost use Rattle.search.specs.Verdicts.{roomVerdict, requestVerdict, askedVerdict, areasVerdict, changeVerdict};
-ghost use Rattle.search.specs.Given.{Numbered, Counted, Fitting, Searchable, Changing};
+ghost use Rattle.search.specs.Verdicts.{roomVerdict, requestVerdict, askedVerdict, changeVerdict};
+ghost use Rattle.search.specs.Given.{Numbered, Fitting, Searchable, Changing};
 use journeys::Enquired;
 use timetable::Checked;
 use timetable::Verdict;
@@ -46,7 +47,7 @@ pub enum Margined {
 
 // The refusal of a file, as an enquiry's answer.
 fn refused_enquiry(checked: Checked) -> Enquired
-    ensures { λ r. ⌜ ((n p : ℕ) → checked ≡ Refused n p → told r ≡ refused n p) ⌝ }
+    ensures { λ r. ⌜ ((n p : ℕ) → checked ≡ Refused n p → toldArrival r ≡ refused n p) ⌝ }
 {
     match checked {
         Checked::Refused(number, place) => Enquired::Refused(number, place),
@@ -67,7 +68,7 @@ fn room_verdict(
     ensures { λ r. ⌜ r ≡ roomVerdict (now (file .entry)) (now (notices .entry)) (now (graph .entry)) (now (work .entry)) (now (journey .entry)) ⌝ }
 {
     let n = connections as usize;
-    let verdict = graph::lengths_verdict(file, notices, graph);
+    let verdict = checks::lengths_verdict(file, notices, graph);
     match verdict {
         Verdict::Refused(number, place) => {
             return Verdict::Refused(number, place);
@@ -111,7 +112,7 @@ fn find_journey(
     time: u16,
 ) -> Enquired
     requires { ⌜ Searchable (now file) (now notices) (now graph) (now work) (now journey) ⌝ }
-    ensures { λ r. ⌜ enquiry (told r) (now (work .exit)) (now (journey .exit)) ≡ searched Passed (networkBy (now (file .entry)) (now (notices .entry))) from to time (now (work .entry)) (now (journey .entry)) ⌝ }
+    ensures { λ r. ⌜ enquiry (toldArrival r) (now (work .exit)) (now (journey .exit)) ≡ searched Passed (networkBy (now (file .entry)) (now (notices .entry))) from to time (now (work .entry)) (now (journey .entry)) ⌝ }
 {
     let n = timetable::connections(file) as usize;
     let mut order = [NONE; MAX_CONNECTIONS];
@@ -133,9 +134,9 @@ fn enquire_in(
     time: u16,
 ) -> Enquired
     requires { ⌜ Fitting (now file) (now notices) (now graph) (now work) (now journey) stops ⌝ }
-    ensures { λ r. ⌜ enquiry (told r) (now (work .exit)) (now (journey .exit)) ≡ searched (askedVerdict (now (file .entry)) (now (notices .entry)) (now (graph .entry)) from to time) (networkBy (now (file .entry)) (now (notices .entry))) from to time (now (work .entry)) (now (journey .entry)) ⌝ }
+    ensures { λ r. ⌜ enquiry (toldArrival r) (now (work .exit)) (now (journey .exit)) ≡ searched (askedVerdict (now (file .entry)) (now (notices .entry)) (now (graph .entry)) from to time) (networkBy (now (file .entry)) (now (notices .entry))) from to time (now (work .entry)) (now (journey .entry)) ⌝ }
 {
-    let contents = graph::contents_verdict(file, notices, graph);
+    let contents = checks::contents_verdict(file, notices, graph);
     match contents {
         Verdict::Refused(number, place) => {
             return Enquired::Refused(number, place);
@@ -165,8 +166,8 @@ fn enquire_by(
     to: u16,
     time: u16,
 ) -> Enquired
-    requires { ⌜ Counted (now file) stops connections ⌝ }
-    ensures { λ r. ⌜ enquiry (told r) (now (work .exit)) (now (journey .exit)) ≡ searched (orElse (roomVerdict (now (file .entry)) (now (notices .entry)) (now (graph .entry)) (now (work .entry)) (now (journey .entry))) (askedVerdict (now (file .entry)) (now (notices .entry)) (now (graph .entry)) from to time)) (networkBy (now (file .entry)) (now (notices .entry))) from to time (now (work .entry)) (now (journey .entry)) ⌝ }
+    requires { ⌜ Opened (now file) stops connections ⌝ }
+    ensures { λ r. ⌜ enquiry (toldArrival r) (now (work .exit)) (now (journey .exit)) ≡ searched (orElse (roomVerdict (now (file .entry)) (now (notices .entry)) (now (graph .entry)) (now (work .entry)) (now (journey .entry))) (askedVerdict (now (file .entry)) (now (notices .entry)) (now (graph .entry)) from to time)) (networkBy (now (file .entry)) (now (notices .entry))) from to time (now (work .entry)) (now (journey .entry)) ⌝ }
 {
     let room = room_verdict(file, notices, graph, work, journey, connections);
     match room {
@@ -189,7 +190,7 @@ pub fn enquire(
     to: u16,
     time: u16,
 ) -> Enquired
-    ensures { λ r. ⌜ Answered (now (file .entry)) (now (notices .entry)) (now (graph .entry)) (now (work .entry)) (now (journey .entry)) from to time (told r) (now (work .exit)) (now (journey .exit)) ⌝ }
+    ensures { λ r. ⌜ Answered (now (file .entry)) (now (notices .entry)) (now (graph .entry)) (now (work .entry)) (now (journey .entry)) from to time (toldArrival r) (now (work .exit)) (now (journey .exit)) ⌝ }
 {
     let checked = timetable::check(file);
     let Checked::Accepted(stops, connections) = checked else {
@@ -221,7 +222,7 @@ fn refused_margin(checked: Checked) -> Margined
 
 // Refusals 13 and 17.
 fn change_verdict(file: &[u8], stops: u16, connections: u16, connection: u16, next: u16) -> Verdict
-    requires { ⌜ Counted (now file) stops connections ⌝ }
+    requires { ⌜ Opened (now file) stops connections ⌝ }
     ensures { λ r. ⌜ r ≡ changeVerdict (now (file .entry)) connection next ⌝ }
 {
     if connections <= connection {
@@ -274,10 +275,10 @@ fn margin_by(
     connection: u16,
     next: u16,
 ) -> Margined
-    requires { ⌜ Counted (now file) stops connections ⌝ }
+    requires { ⌜ Opened (now file) stops connections ⌝ }
     ensures { λ r. ⌜ toldMargin r ≡ answering (orElse (areasVerdict (now (file .entry)) (now (notices .entry)) (now (graph .entry))) (changeVerdict (now (file .entry)) connection next)) (marginOf (networkBy (now (file .entry)) (now (notices .entry))) connection next) ⌝ }
 {
-    let areas = graph::areas_verdict(file, notices, graph);
+    let areas = checks::areas_verdict(file, notices, graph);
     match areas {
         Verdict::Refused(number, place) => {
             return Margined::Refused(number, place);

@@ -10,7 +10,8 @@ use Rattle.timetable.specs.Room.{HasStop}
 use Rattle.timetable.specs.Check.{maxTransferTime}
 use Rattle.timetable.proofs.Accepted.{room-for-stop}
 use Rattle.model.proofs.Tests.{one-more}
-use Rattle.times.specs.Times.{Opened, EventsBelow, Events, EventsRoom, SameLengths}
+use Rattle.timetable.specs.Accepted.{Opened}
+use Rattle.times.specs.Times.{EventsBelow, Events, EventsRoom, SameLengths}
 
 module _ (f : List ℕ) (s n : ℕ) (o : Opened f s n) (c : ℕ) (h : c < n) where
   -- the file holds the minimum transfer time of the stop that c goes to

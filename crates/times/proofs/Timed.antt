@@ -9,31 +9,17 @@ use Rattle.model.specs.Least.{tab}
 use Rattle.model.specs.Network.{Network, Sound, lastExpected}
 use Rattle.model.specs.Graph.{waiting, transfer, firstDeparture, times, graphOf}
 use Rattle.model.proofs.Tests.{by-eq}
-use Rattle.model.proofs.GraphArea.{length-times, departure-entry, arrival-entry}
+use Rattle.model.proofs.GraphArea.{length-times, in-times, departure-entry, arrival-entry}
 use Rattle.times.specs.Times.{Timed}
 
 module _ (net : Network) where
-  -- the times stand first in the graph area
-  pub in-graph : (i : ℕ) → i < 2 * net .connections → getD (times net (net .connections)) i 0 ≡ getD (graphOf net) i 0
-  unfolding graphOf
-  in-graph i h =
-      let n : ℕ = net .connections in
-      let a : List ℕ = times net n in
-      let b : List ℕ = tab (waiting net) n in
-      let d : List ℕ = tab (transfer net) n in
-      let l : i < length a = rw length-times h in
-      sym
-      (List·getD-append (a ++ b ++ d) (tab (firstDeparture net) (net .stops)) 0 i (simp length-append (omega arith))
-      ∙ List·getD-append (a ++ b) d 0 i (simp length-append (omega arith))
-      ∙ List·getD-append a b 0 i l)
-
   module _ (n : ℕ) (all : n ≡ net .connections) where
     -- c's departure and arrival
     pub departure-timed : (c : ℕ) → c < n → getD (times net n) (2 * c) 0 ≡ net .departure c
-    departure-timed c h = rw all (in-graph (2 * c) (omega arith) ∙ departure-entry net c (omega arith))
+    departure-timed c h = rw all (sym (in-times net (2 * c) (omega arith)) ∙ departure-entry net c (omega arith))
 
     pub arrival-timed : (c : ℕ) → c < n → getD (times net n) (2 * c + 1) 0 ≡ net .arrival c
-    arrival-timed c h = rw all (in-graph (2 * c + 1) (omega arith) ∙ arrival-entry net c (omega arith))
+    arrival-timed c h = rw all (sym (in-times net (2 * c + 1) (omega arith)) ∙ arrival-entry net c (omega arith))
 
     -- the times of a sound network are within the last minute of a time in force
     pub times-timed : Sound net → Timed (times net n) n

@@ -18,7 +18,8 @@ use Rattle.model.specs.Times.{expectedDeparture, expectedArrival}
 use Rattle.model.proofs.Tests.{by-bool}
 use Rattle.model.proofs.GraphArea.{length-times}
 use Rattle.model.proofs.Times.{first-starts, departure-own, departure-after, arrival-most}
-use Rattle.times.specs.Times.{Opened, Delays, departsAt, longestTime}
+use Rattle.timetable.specs.Accepted.{Opened}
+use Rattle.times.specs.Times.{Delays, departsAt, longestTime}
 
 -- the own departure stands where it is not before the arrival, or where the trip starts
 pub own-stands : (s : Bool) (own before : ℕ) → ((s ≡ true) × (before ≤ own)) ⊎ (s ≡ false) → own ≡ cond s (max own before) own

@@ -11,12 +11,6 @@ use Rattle.model.specs.Notices.{noticesLength, mostStanding, areaOf, rowsOf, We
 use Rattle.model.specs.Network.{Network, lastExpected}
 use Rattle.model.specs.Times.{networkWith}
 
--- an accepted timetable of s stops and n connections
-pub record Opened (f : List ℕ) (s n : ℕ) : Type 0 where
-  pub timetable : Timetable f
-  pub stops : s ≡ stops f
-  pub connections : n ≡ connections f
-
 -- a delay for each of n connections, none longer than a notice's
 pub record Delays (delays : List ℕ) (n : ℕ) : Type 0 where
   pub room : n ≤ length delays

@@ -5,7 +5,8 @@ ghost use lib.ListN.{length};
 ghost use Rattle.timetable.specs.Room.{HasConnection};
 ghost use Rattle.timetable.specs.File.{scheduledDeparture, scheduledArrival};
 ghost use Rattle.model.specs.Graph.{times};
-ghost use Rattle.times.specs.Times.{Opened, Delays, Standing, Timed, EventsRoom, SameLengths, Events, networkIn, departsAt, longestTime};
+ghost use Rattle.timetable.specs.Accepted.{Opened};
+ghost use Rattle.times.specs.Times.{Delays, Standing, Timed, EventsRoom, SameLengths, Events, networkIn, departsAt, longestTime};
 ghost use Rattle.model.specs.Times.{travelTime};
 ghost use Rattle.model.specs.Ready.{networkBy};
 

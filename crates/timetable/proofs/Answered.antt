@@ -1,12 +1,14 @@
 -- What the answer of the check tells of the file. Assumes nothing.
-use mathlib.Core.Path.{_≡_, refl, sym}
+use mathlib.Core.Path.{_≡_, refl, sym, ap}
 use mathlib.Core.List.{List}
 use Prim.Native.Nat.{ℕ}
 use native.Mathlib.Omega.{arith}
 use Rattle.timetable.specs.Answers.{Answer, accepted, refused, answering}
-use Rattle.timetable.specs.Accepted.{Timetable}
+use Rattle.timetable.specs.Accepted.{Timetable, Opened}
 use Rattle.timetable.specs.Refusals.{FileRefusal}
-use Rattle.timetable.specs.Check.{Counts, countsOf, fileVerdict, checkedAnswer}
+use Rattle.timetable.specs.Check.{Counts, countsOf, fileVerdict, checkedAnswer, toldCounts}
+use Rattle.timetable.specs.declared.Checked.{Checked}
+use Rattle.timetable.specs.declared.Checked.the-variants as C
 use Rattle.timetable.specs.declared.Verdict.{Verdict}
 use Rattle.timetable.specs.declared.Verdict.the-variants.{Passed, Refused}
 use Rattle.timetable.proofs.Accepted.{accepted-iff}
@@ -33,3 +35,13 @@ module _ (f : List ℕ) where
   -- a file that it refuses is refused for this reason
   pub answered-refused : (n p : ℕ) → refused n p ≡ checkedAnswer f → FileRefusal f n p
   answered-refused n p e = refused-iff f n p .0 (stopped (fileVerdict f) (countsOf f) n p e)
+
+  -- the same where code goes by the answer
+  module _ (r : Checked) (h : toldCounts r ≡ checkedAnswer f) where
+    pub opened-by : (s n : ℕ) → r ≡ C.Accepted s n → Opened f s n
+    opened-by s n e =
+        let a = answered-accepted (record { stops = s; connections = n }) (rw e at h) in
+        record { timetable = a .0; stops = ap (λ (k : Counts). k .stops) (a .1); connections = ap (λ (k : Counts). k .connections) (a .1) }
+
+    pub refused-by : (n p : ℕ) → r ≡ C.Refused n p → fileVerdict f ≡ Refused n p
+    refused-by n p e = refused-iff f n p .1 (answered-refused n p (rw e at h))

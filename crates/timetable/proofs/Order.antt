@@ -24,6 +24,10 @@ pub else-passed : (v w : Verdict) → (orElse v w ≡ Passed) ↔ ((v ≡ Passed
 else-passed Passed w = (λ h. (refl, h), λ h. h .1)
 else-passed (Refused m p) w = (λ h. absurd (passed-not-refused h refl), λ h. h .0)
 
+pub else-assoc : (u v w : Verdict) → orElse (orElse u v) w ≡ orElse u (orElse v w)
+else-assoc Passed v w = refl
+else-assoc (Refused n p) v w = refl
+
 pub else-refused : (v w : Verdict) (m p : ℕ)
     → (orElse v w ≡ Refused m p) ↔ ((v ≡ Refused m p) ⊎ ((v ≡ Passed) × (w ≡ Refused m p)))
 else-refused Passed w m p = (λ h. inr (refl, h), ⊎-elim (λ h. absurd (passed-not-refused refl h)) (λ h. h .1))

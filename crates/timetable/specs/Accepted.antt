@@ -27,3 +27,9 @@ pub record Timetable (f : List ℕ) : Type 0 where
   pub within : (c : ℕ) → c < connections f → scheduledArrival f c ≤ lastScheduled
   pub joins : (c : ℕ) → suc c < connections f → staysAboard f (suc c) ≡ true → from f (suc c) ≡ to f c
   pub keeps : (c : ℕ) → suc c < connections f → staysAboard f (suc c) ≡ true → scheduledArrival f c ≤ scheduledDeparture f (suc c)
+
+-- a timetable of s stops and n connections
+pub record Opened (f : List ℕ) (s n : ℕ) : Type 0 where
+  pub timetable : Timetable f
+  pub stops : s ≡ stops f
+  pub connections : n ≡ connections f

@@ -1,5 +1,5 @@
 -- The check of a timetable file: refusals 1 to 11 in their order, each with its place. Assumes nothing.
-use mathlib.Core.Bool.{Bool, true, false, not, _&&_, _||_}
+use mathlib.Core.Bool.{Bool, false, not, _&&_, _||_}
 use mathlib.Core.List.{List, [], _∷_}
 use Prim.Native.Nat.{ℕ, zero, suc}
 use lib.Dec.{ltb, leb, eqb}
@@ -93,6 +93,6 @@ abbrev pub checkedAnswer : List ℕ → Answer Counts
 checkedAnswer f = answering (fileVerdict f) (countsOf f)
 
 -- document 01's values and numbers of the check's answer
-abbrev pub told : Checked → Answer Counts
-told (C.Accepted s c) = accepted (record { stops = s; connections = c })
-told (C.Refused n p) = refused n p
+abbrev pub toldCounts : Checked → Answer Counts
+toldCounts (C.Accepted s c) = accepted (record { stops = s; connections = c })
+toldCounts (C.Refused n p) = refused n p

@@ -9,7 +9,7 @@ ghost use Rattle.timetable.specs.Answers.{firstRefusal, firstBelow};
 ghost use Rattle.timetable.specs.File.{headerLength, marked, stops, connections, transferTime, trip, from, to, scheduledDeparture, scheduledArrival, staysAboard};
 ghost use Rattle.timetable.specs.Room.{HasStop, HasConnection, HasConnections};
 ghost use Rattle.timetable.specs.Refusals.{Past6};
-ghost use Rattle.timetable.specs.Check.{maxStops, maxConnections, headerVerdict, stopVerdict, wrongStops, wrongTrip, wrongTimes, wrongJoin, connectionVerdict, fileVerdict, checkedAnswer, told};
+ghost use Rattle.timetable.specs.Check.{maxStops, maxConnections, headerVerdict, stopVerdict, wrongStops, wrongTrip, wrongTimes, wrongJoin, connectionVerdict, fileVerdict, checkedAnswer, toldCounts};
 
 // Whether a call goes on, or the refusal's number and place.
 pub enum Verdict {
@@ -294,7 +294,7 @@ fn file_verdict(file: &[u8]) -> Verdict
 
 // The check of a file: its counts, or the first refusal.
 pub fn check(file: &[u8]) -> Checked
-    ensures { λ r. ⌜ told r ≡ checkedAnswer (now (file .entry)) ⌝ }
+    ensures { λ r. ⌜ toldCounts r ≡ checkedAnswer (now (file .entry)) ⌝ }
 {
     let verdict = file_verdict(file);
     match verdict {

@@ -2,8 +2,9 @@
 use mathlib.Core.Path.{_≡_, sym, _∙_}
 use Rattle.timetable.specs.declared.Verdict.the-variants.{Passed}
 use Rattle.model.specs.Operations.{lengthsVerdict}
-use Rattle.times.specs.Times.{Opened}
-use Rattle.graph.proofs.Outcomes.{opened-by, refused-by, built-file, built-lengths, built-done}
+use Rattle.timetable.specs.Accepted.{Opened}
+use Rattle.timetable.proofs.Answered.{opened-by, refused-by}
+use Rattle.graph.proofs.Outcomes.{built-file, built-lengths, built-done}
 use borrow.Author.Needs.{needs}
 use Rattle.graph.proofs.build.Statement.{statement}
 use Rattle.graph.proofs.build.Tie as tie
@@ -14,7 +15,7 @@ entry c = c .before .before .before .before .before .before .before
 
 opened : (c : tie.After-known-told) → Opened (entry c .args .file .now) (c .before .checked .given .0 .0) (c .before .checked .given .0 .1 .0)
 opened c =
-    let k = c .before .before .before .check in opened-by (entry c .args .file .now) (k .result) _ _ (k .ensures) (c .before .checked .given .1)
+    let k = c .before .before .before .check in opened-by (entry c .args .file .now) (k .result) (k .ensures) _ _ (c .before .checked .given .1)
 
 -- where 21 and 22 have passed
 long-enough : (c : tie.After-enum-told2) → let s = entry (c .before .before .before .before .before) in lengthsVerdict (s .args .file .now) (s .args .notices .now) (s .args .graph .now) ≡ Passed
@@ -34,7 +35,7 @@ returns c =
     let k = c .before .before .check in
     let s = c .before .before .before .before .before .before in
     let e = c .enum-told .given .1 in
-    rw e (built-file (s .args .file .now) (s .args .notices .now) (s .args .graph .now) _ _ (refused-by (s .args .file .now) (k .result) _ _ (k .ensures) e))
+    rw e (built-file (s .args .file .now) (s .args .notices .now) (s .args .graph .now) _ _ (refused-by (s .args .file .now) (k .result) (k .ensures) _ _ e))
 
 lengths-verdict-requires : tie.Need-lengths-verdict-requires
 lengths-verdict-requires c κs = opened (c .before .before) .timetable

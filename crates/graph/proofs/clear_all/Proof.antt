@@ -2,7 +2,8 @@
 use mathlib.Core.List.{[]}
 use Rattle.timetable.specs.File.{connections}
 use Rattle.model.specs.Notices.{WellFormed}
-use Rattle.graph.proofs.Passed.{lengths-room, none-formed, written-standing, written}
+use Rattle.checks.proofs.Passed.{lengths-room}
+use Rattle.graph.proofs.Passed.{none-formed, written-standing, written}
 use borrow.Author.Needs.{needs}
 use Rattle.graph.proofs.clear_all.Statement.{statement}
 use Rattle.graph.proofs.clear_all.Tie as tie

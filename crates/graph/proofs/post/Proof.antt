@@ -1,15 +1,17 @@
 -- `graph::post` meets its contract. Assumes nothing.
 use mathlib.Core.Path.{_≡_, sym, ap, _∙_}
 use Rattle.timetable.specs.File.{connections}
-use Rattle.timetable.specs.Check.{told}
+use Rattle.timetable.specs.Check.{toldCounts}
 use Rattle.timetable.specs.declared.Verdict.the-variants.{Passed}
 use Rattle.model.specs.Notices.{rowsOf}
 use Rattle.model.specs.Ready.{Ready}
 use Rattle.notices.proofs.Standing.{ready-kept}
-use Rattle.times.specs.Times.{Opened}
-use Rattle.graph.specs.Verdicts.{areasVerdict, postingVerdict}
-use Rattle.graph.proofs.Passed.{areas-ready}
-use Rattle.graph.proofs.Outcomes.{opened-by, refused-by, posting, file-refuses, areas-refuse, call-refuses, call-accepted}
+use Rattle.timetable.specs.Accepted.{Opened}
+use Rattle.model.specs.Operations.{areasVerdict}
+use Rattle.graph.specs.Verdicts.{postingVerdict}
+use Rattle.checks.proofs.Passed.{areas-ready}
+use Rattle.timetable.proofs.Answered.{opened-by, refused-by}
+use Rattle.graph.proofs.Outcomes.{posting, file-refuses, areas-refuse, call-refuses, call-accepted}
 use borrow.Author.Needs.{needs}
 use Rattle.graph.proofs.post.Statement.{statement}
 use Rattle.graph.proofs.post.Tie as tie
@@ -20,7 +22,7 @@ entry c = c .before .before .before .before .before .before .before
 
 opened : (c : tie.After-known-told) → Opened (entry c .args .file .now) (c .before .checked .given .0 .0) (c .before .checked .given .0 .1 .0)
 opened c =
-    let k = c .before .before .before .check in opened-by (entry c .args .file .now) (k .result) _ _ (k .ensures) (c .before .checked .given .1)
+    let k = c .before .before .before .check in opened-by (entry c .args .file .now) (k .result) (k .ensures) _ _ (c .before .checked .given .1)
 
 -- where 21 to 24 have passed
 areas-right : (c : tie.After-enum-told2) → let s = entry (c .before .before .before .before .before) in areasVerdict (s .args .file .now) (s .args .notices .now) (s .args .graph .now) ≡ Passed
@@ -53,8 +55,8 @@ returns c =
     let k = c .before .before .before .check in
     let s = c .before .before .before .before .before .before .before in
     let e = c .before .enum-told .given .1 in
-    rw (c .refused .ensures _ _ (ap told e))
-    (file-refuses (posting (s .args .file .now) (s .args .notices .now) (s .args .graph .now) (s .args .number) (s .args .connection) (s .args .delay)) _ _ (refused-by (s .args .file .now) (k .result) _ _ (k .ensures) e))
+    rw (c .refused .ensures _ _ (ap toldCounts e))
+    (file-refuses (posting (s .args .file .now) (s .args .notices .now) (s .args .graph .now) (s .args .number) (s .args .connection) (s .args .delay)) _ _ (refused-by (s .args .file .now) (k .result) (k .ensures) _ _ e))
 
 areas-verdict-requires : tie.Need-areas-verdict-requires
 areas-verdict-requires c κs = opened (c .before .before) .timetable

@@ -3,7 +3,7 @@ use mathlib.Core.Path.{_≡_, refl, _∙_}
 use Prim.Native.Nat.{_≤_, _*_, _-_}
 use native.Mathlib.Omega.{arith}
 use lib.ListN.{length, length-set}
-use Rattle.graph.specs.Answers.{told}
+use Rattle.graph.specs.Answers.{toldNumber}
 use Rattle.model.specs.Runs.{ran}
 use Rattle.runs.specs.Calls.{answerWidth, callsOf}
 use Rattle.runs.proofs.Turn.{Left, start, turn, end, length-pair}
@@ -108,7 +108,7 @@ loop-again c =
     let n = l .before .lesser .result in
     let h : answerWidth * n ≤ length (l .loop .answers) = omega (arith, l .before .lesser .ensures, i .3) in
     rw (c .before .number-of .ensures, c .value-of .ensures)
-    (omega arith, w .kept .1 .0 ∙ i .1, w .kept .1 .1 .0 ∙ i .2, length-pair (l .loop .answers) (answerWidth * l .loop .k) _ _ ∙ i .3, turn (a .file .now) (a .calls .now) n _ _ (l .loop .k) (l .loop .notices) (l .loop .graph) (l .loop .answers) (w .last .1 .0) (w .last .1 .1 .0) (told (w .result)) (t .loop-test .taken) h (w .ensures) (i .4))
+    (omega arith, w .kept .1 .0 ∙ i .1, w .kept .1 .1 .0 ∙ i .2, length-pair (l .loop .answers) (answerWidth * l .loop .k) _ _ ∙ i .3, turn (a .file .now) (a .calls .now) n _ _ (l .loop .k) (l .loop .notices) (l .loop .graph) (l .loop .answers) (w .last .1 .0) (w .last .1 .1 .0) (toldNumber (w .result)) (t .loop-test .taken) h (w .ensures) (i .4))
 
 same-length : tie.Need-same-length Inv-loop μ-loop
 same-length c = c .before .loop .inv .1

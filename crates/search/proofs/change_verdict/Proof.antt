@@ -9,14 +9,14 @@ returns : tie.Need-returns
 returns c =
     let s = c .before .before in
     let a = s .args in
-    let n = s .pre .connection-count in
+    let n = s .pre .connections in
     change-unknown (a .file .now) (a .connection) (a .next) (λ h. omega arith)
 
 returns-2 : tie.Need-returns-2
 returns-2 c =
     let s = c .before .before .before in
     let a = s .args in
-    let n = s .pre .connection-count in
+    let n = s .pre .connections in
     change-unknown (a .file .now) (a .connection) (a .next) (λ h. omega arith)
 
 to-requires : tie.Need-to-requires
@@ -29,14 +29,14 @@ returns-3 : tie.Need-returns-3
 returns-3 c =
     let s = c .before .before .before .before .before .before in
     let a = s .args in
-    let n = s .pre .connection-count in
+    let n = s .pre .connections in
     change-apart (a .file .now) (a .connection) (a .next) (omega arith) _ _ (c .before .before .to .ensures) (c .before .from .ensures) (c .if3 .taken)
 
 returns-4 : tie.Need-returns-4
 returns-4 c =
     let s = c .before .before .before .before .before .before in
     let a = s .args in
-    let n = s .pre .connection-count in
+    let n = s .pre .connections in
     change-passes (a .file .now) (a .connection) (a .next) (omega arith) _ _ (c .before .before .to .ensures) (c .before .from .ensures) (c .if3 .left)
 
 pub change-verdict-spec : {M : Type 1} → statement M

@@ -28,7 +28,7 @@ enquire-in-requires c κs =
     let e = c .before .before in
     let v = e .before .before in
     let s = v .before .before .before .before .before .before .before .before in
-    fitting _ _ _ _ _ _ (s .pre .timetable) (s .pre .stop-count) (sym (v .room-verdict .ensures) ∙ e .enum-told .given .1)
+    fitting _ _ _ _ _ _ (s .pre .timetable) (s .pre .stops) (sym (v .room-verdict .ensures) ∙ e .enum-told .given .1)
 
 same-length-3 : tie.Need-same-length-3
 same-length-3 c = search needs

@@ -2,7 +2,7 @@
 use mathlib.Core.Path.{_∙_}
 use borrow.Author.Needs.{needs}
 use Rattle.timetable.proofs.Accepted.{accepted-iff}
-use Rattle.search.proofs.Verdicts.{file-refused, file-counted}
+use Rattle.timetable.proofs.Answered.{opened-by, refused-by}
 use Rattle.search.proofs.Margins.{margined-refused, margined-parts}
 use Rattle.search.proofs.margin.Statement.{statement}
 use Rattle.search.proofs.margin.Tie as tie
@@ -22,15 +22,15 @@ refused-margin-requires c κs = search needs
 returns : tie.Need-returns
 returns c =
     let q = c .before .enum-told .given .1 in
-    c .refused-margin .ensures _ _ q ∙ margined-refused _ _ _ _ _ _ _ (file-refused _ _ (c .before .before .before .check .ensures) _ _ q)
+    c .refused-margin .ensures _ _ q ∙ margined-refused _ _ _ _ _ _ _ (refused-by _ _ (c .before .before .before .check .ensures) _ _ q)
 
 margin-by-requires : tie.Need-margin-by-requires
-margin-by-requires c κs = file-counted _ _ (c .before .before .before .check .ensures) _ _ (c .before .checked .given .1)
+margin-by-requires c κs = opened-by _ _ (c .before .before .before .check .ensures) _ _ (c .before .checked .given .1)
 
 returns-2 : tie.Need-returns-2
 returns-2 c =
     let k = c .before .before in
-    let p = file-counted _ _ (k .before .before .check .ensures) _ _ (k .checked .given .1) in
+    let p = opened-by _ _ (k .before .before .check .ensures) _ _ (k .checked .given .1) in
     c .margin-by .ensures ∙ margined-parts _ _ _ _ _ (accepted-iff _ .1 (p .timetable))
 
 pub margin-spec : {M : Type 1} → statement M

@@ -1,12 +1,12 @@
--- `graph::lengths_verdict` meets its contract. Assumes nothing.
+-- `checks::lengths_verdict` meets its contract. Assumes nothing.
 use native.Mathlib.Omega.{arith}
 use borrow.Author.Tests.{lt-ltb, le-ltb}
 use lib.ListN.{length}
 use Rattle.model.specs.Notices.{noticesLength}
 use Rattle.model.specs.Operations.{graphLength, lengthsVerdict}
 use borrow.Author.Needs.{needs}
-use Rattle.graph.proofs.lengths_verdict.Statement.{statement}
-use Rattle.graph.proofs.lengths_verdict.Tie as tie
+use Rattle.checks.proofs.lengths_verdict.Statement.{statement}
+use Rattle.checks.proofs.lengths_verdict.Tie as tie
 
 returns : tie.Need-returns
 unfolding lengthsVerdict

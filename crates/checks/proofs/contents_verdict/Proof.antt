@@ -1,12 +1,12 @@
--- `graph::contents_verdict` meets its contract. Assumes nothing.
+-- `checks::contents_verdict` meets its contract. Assumes nothing.
 use mathlib.Core.Path.{_≡_, sym, _∙_}
 use Rattle.timetable.specs.File.{connections}
 use Rattle.timetable.specs.declared.Verdict.the-variants.{Passed}
 use Rattle.model.specs.Notices.{rowsVerdict}
-use Rattle.graph.proofs.Passed.{lengths-room, rows-passed, contents-refused, contents-end}
+use Rattle.checks.proofs.Passed.{lengths-room, rows-passed, contents-refused, contents-end}
 use borrow.Author.Needs.{needs}
-use Rattle.graph.proofs.contents_verdict.Statement.{statement}
-use Rattle.graph.proofs.contents_verdict.Tie as tie
+use Rattle.checks.proofs.contents_verdict.Statement.{statement}
+use Rattle.checks.proofs.contents_verdict.Tie as tie
 
 -- where 23 has passed
 rows-right : (c : tie.After-enum-told) → let a = c .before .before .before .before .before .before .before .before .args in rowsVerdict (connections (a .file .now)) (a .notices .now) ≡ Passed

@@ -1,9 +1,9 @@
--- `graph::areas_verdict` meets its contract. Assumes nothing.
+-- `checks::areas_verdict` meets its contract. Assumes nothing.
 use mathlib.Core.Path.{sym, _∙_}
 use Rattle.timetable.proofs.Order.{or-passed}
 use borrow.Author.Needs.{needs}
-use Rattle.graph.proofs.areas_verdict.Statement.{statement}
-use Rattle.graph.proofs.areas_verdict.Tie as tie
+use Rattle.checks.proofs.areas_verdict.Statement.{statement}
+use Rattle.checks.proofs.areas_verdict.Tie as tie
 
 lengths-verdict-requires : tie.Need-lengths-verdict-requires
 lengths-verdict-requires c κs = search needs
