@@ -17,9 +17,13 @@ demo:
 lib:
 	rt staticlib panel
 
-# Microseconds beside the independent Rust implementation.
+# Microseconds beside the independent Rust implementation; instructions too where valgrind is installed, drawn into
+# target/instructions.svg.
 bench: lib
 	$(COMPARE) --bin bench
+	@if command -v valgrind >/dev/null; then \
+	    tests/compare/counts.sh 3 >target/counts && $(COMPARE) --bin figures -- target/instructions.svg <target/counts; \
+	else echo 'no valgrind, so no instruction counts'; fi
 
 # A long comparison with the independent Rust implementation: make fuzz SEED=7 ROUNDS=20000
 SEED ?= 1

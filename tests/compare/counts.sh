@@ -1,32 +1,34 @@
 #!/usr/bin/env bash
-# Instructions of each operation by callgrind, after `make bench`: a line 'C NOTICES SIDE OPERATION INSTRUCTIONS' for each.
-# counts.sh NOTICES [C..]; without C for 125 to 2000. The difference of two repeat counts is one call's cost. Large `memset`s
+# Instructions of each operation by callgrind: counts.sh NOTICES [C..], without C for 125 to 2000. Prints a line
+# 'C NOTICES SIDE OPERATION INSTRUCTIONS' for each. The difference of two repeat counts gives one call's cost. Large `memset`s
 # and `memcpy`s are kept from their `rep` forms, which callgrind counts byte by byte. Before each posting and withdrawal both
 # areas are copied back; that cost, `restore`, is taken off.
 set -euo pipefail
 cd "$(dirname "$0")/../.."
 export GLIBC_TUNABLES=glibc.cpu.x86_rep_stosb_threshold=100000000:glibc.cpu.x86_rep_movsb_threshold=100000000
+notices=$1
+shift
+sizes=${*:-125 250 500 1000 2000}
+
 run() {
     valgrind --tool=callgrind --callgrind-out-file=/dev/null target/compare/release/bench one "$1" "$c" "$notices" "$side" "$2" 2>&1 |
         grep -oP 'Collected : \K\d+'
 }
+
 cost() {
     local few many
     few=$(run "$1" 5)
     many=$(run "$1" 25)
     echo $(((many - few) / 20))
 }
-notices=$1
-shift
-for c in "${@:-125 250 500 1000 2000}"; do
-    for c in $c; do
-        for side in library rust; do
-            restore=$(cost restore)
-            for op in check build post withdraw enquire margin; do
-                n=$(cost "$op")
-                case $op in post | withdraw) n=$((n - restore)) ;; esac
-                echo "$c $notices $side $op $n"
-            done
+
+for c in $sizes; do
+    for side in library rust; do
+        restore=$(cost restore)
+        for op in check build post withdraw enquire margin; do
+            n=$(cost "$op")
+            case $op in post | withdraw) n=$((n - restore)) ;; esac
+            echo "$c $notices $side $op $n"
         done
     done
 done

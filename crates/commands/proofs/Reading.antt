@@ -1,6 +1,6 @@
 -- How a word is read as a number, digit by digit. Assumes nothing.
 use mathlib.Core.Path.{_≡_}
-use mathlib.Core.Bool.{cond, _&&_}
+use mathlib.Core.Bool.{cond, _&&_, and-false}
 use mathlib.Core.List.{List, [], _∷_}
 use Prim.Native.Nat.{ℕ, suc, _+_, _*_, _-_, _<_, _≤_}
 use native.Mathlib.Numerals.{add-one}
@@ -12,7 +12,6 @@ use lib.Seq.{drop-cons}
 use Rattle.commands.specs.Decimal.{digitZero, digitNine, maxDigits, maxNumber, allDigits, valueAfter, decimal}
 use Rattle.commands.specs.declared.Number.{Number}
 use Rattle.commands.specs.declared.Number.the-variants.{Is, Unread}
-use Rattle.commands.proofs.Tests.{and-false}
 
 -- the number of a word of which the bytes are left, when those before them had value v
 unfoldable pub decimalAfter : ℕ → List ℕ → Number

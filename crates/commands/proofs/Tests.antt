@@ -20,11 +20,6 @@ eq-split (no h) = inr h
 pub by-eq : (m n : ℕ) → (m ≡ n) ⊎ (m ≡ n → ⊥)
 by-eq m n = eq-split (ℕ-discrete m n)
 
--- a test that fails on the right fails
-pub and-false : (p : Bool) → p && false ≡ false
-and-false true = refl
-and-false false = refl
-
 pub and-left : (p q : Bool) → p && q ≡ true → p ≡ true
 and-left true q h = refl
 and-left false q h = h

@@ -1,6 +1,7 @@
 -- Laws of the words of a text, and of a line's command by its words. Assumes nothing.
 use mathlib.Core.Path.{_≡_, refl, ap, _∙_}
 use mathlib.Core.Logic.{_⊎_, ⊎-elim}
+use mathlib.Core.Bool.{and-false}
 use mathlib.Core.List.{List, [], _∷_, map}
 use Prim.Native.Nat.{ℕ, suc, _+_, _-_, _<_, _≤_}
 use native.Mathlib.Nat.{sub-zero}
@@ -14,7 +15,7 @@ use Rattle.commands.specs.Commands.{maxLine, newline, space, onFirst, wo
 use Rattle.commands.specs.declared.Command.the-variants.{Unreadable}
 use Rattle.commands.specs.declared.Numbers.{Numbers}
 use Rattle.commands.specs.declared.Numbers.the-variants.{One, Two, Three, Other}
-use Rattle.commands.proofs.Tests.{by-eq, and-false, cond-same}
+use Rattle.commands.proofs.Tests.{by-eq, cond-same}
 
 -- the words of a text that starts with a space
 words-space : (b : ℕ) (bs : List ℕ) → b ≡ space → words (b ∷ bs) ≡ [] ∷ words bs

@@ -1,6 +1,6 @@
 // Command lines read and answer lines written: bytes in, a command out; numbers in, bytes out.
 ghost use mathlib.Core.Path.{_≡_};
-ghost use mathlib.Core.List.{List, _∷_, map};
+ghost use mathlib.Core.List.{_∷_, map};
 ghost use Prim.Native.Nat.{_+_, _*_, _≤_};
 ghost use lib.IntN.{natAbs};
 ghost use lib.ListN.{length};

@@ -66,24 +66,27 @@ length-struck-le m [] = omega arith
 length-struck-le m (n ∷ ns) =
     by-test (λ (l : List Notice). length l ≤ suc (length ns)) (eqb (n .number) m) (λ e. omega (arith, length-struck-le m ns)) (λ e. omega (arith, length-struck-le m ns))
 
--- a number below all rows strikes none
-pub struck-none : (C before m : ℕ) (ns : List Notice) → m ≤ before → Ascending C before ns → struck m ns ≡ ns
-unfolding struck
-struck-none C before m [] l h = refl
-struck-none C before m (n ∷ ns) l h =
-    rw (ne-eqb (n .number) m (λ (e : n .number ≡ m). omega (arith, h .0)))
-    (ap (λ (r : List Notice). n ∷ r) (struck-none C (n .number) m ns (omega (arith, h .0)) (h .2)))
+-- rows whose numbers ascend from above the number before, by any R that says so
+module _ (R : ℕ → List Notice → Type 0) (above : (before : ℕ) (n : Notice) (ns : List Notice) → R before (n ∷ ns) → before < n .number)
+    (on : (before : ℕ) (n : Notice) (ns : List Notice) → R before (n ∷ ns) → R (n .number) ns) where
+  -- a number below all of them strikes none
+  struck-none : (before m : ℕ) (ns : List Notice) → m ≤ before → R before ns → struck m ns ≡ ns
+  unfolding struck
+  struck-none before m [] l h = refl
+  struck-none before m (n ∷ ns) l h =
+      let a = above before n ns h in
+      rw (ne-eqb (n .number) m (λ (e : n .number ≡ m). omega arith))
+      (ap (λ (r : List Notice). n ∷ r) (struck-none (n .number) m ns (omega arith) (on before n ns h)))
 
--- a number that stands strikes one
-pub length-struck : (C before m : ℕ) (ns : List Notice) → stands m ns ≡ true → Ascending C before ns
-    → suc (length (struck m ns)) ≡ length ns
-unfolding struck stands
-length-struck C before m [] s h = cc
-length-struck C before m (n ∷ ns) s h =
-    by-test (λ (l : List Notice). suc (length l) ≡ suc (length ns)) (eqb (n .number) m)
-    (λ (e : eqb (n .number) m ≡ true).
-    let q : n .number ≡ m = eqb-true _ _ e in rw (struck-none C (n .number) m ns (omega arith) (h .2)))
-    (λ e. ap suc (length-struck C (n .number) m ns (or-true _ _ e s) (h .2)))
+  -- a number that stands strikes one
+  pub length-struck : (before m : ℕ) (ns : List Notice) → stands m ns ≡ true → R before ns → suc (length (struck m ns)) ≡ length ns
+  unfolding struck stands
+  length-struck before m [] s h = cc
+  length-struck before m (n ∷ ns) s h =
+      by-test (λ (l : List Notice). suc (length l) ≡ suc (length ns)) (eqb (n .number) m)
+      (λ (e : eqb (n .number) m ≡ true).
+      let q : n .number ≡ m = eqb-true _ _ e in rw (struck-none (n .number) m ns (omega arith) (on before n ns h)))
+      (λ e. ap suc (length-struck (n .number) m ns (or-true _ _ e s) (on before n ns h)))
 
 -- entering keeps notices well formed
 pub entered-formed : (C : ℕ) (a : Notice) (ns : List Notice) → Fits C 0 a → stands (a .number) ns ≡ false → length ns < room

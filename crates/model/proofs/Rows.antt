@@ -10,7 +10,7 @@ use native.Mathlib.Omega.{arith}
 use borrow.Author.Tests.{lt-ltb, le-ltb, le-leb, ltb-true, ltb-false, leb-true, eqb-true, not-false}
 use lib.Dec.{ltb, leb, eqb}
 use lib.ListN.{length, getD, drop, replicate, length-drop}
-use lib.Seq.{drop-drop}
+use lib.Seq.{drop-cons, drop-drop}
 use Rattle.timetable.specs.Answers.{refuseIf, orElse}
 use Rattle.timetable.specs.declared.Verdict.{Verdict}
 use Rattle.timetable.specs.declared.Verdict.the-variants.{Passed, Refused}
@@ -114,11 +114,6 @@ reads C r count xs p l h =
     let q = read-rows C 1 0 count (r - count) xs (rw (← e) l) (rw (← e) h) in
     (rw (z, append-assoc) (rw (← e) at (q .0)), q .1)
 
--- an area's count and the numbers after it
-head-tail : (area : List ℕ) → 1 ≤ length area → area ≡ getD area 0 0 ∷ drop 1 area
-head-tail [] h = absurd (omega arith)
-head-tail (x ∷ xs) h = refl
-
 -- an area that passes is that of its notices, and these are well formed
 pub area-read : (C : ℕ) (area : List ℕ) → noticesLength ≤ length area → rowsVerdict C area ≡ Passed
     → (area ≡ areaOf (rowsOf area) ++ drop noticesLength area) × WellFormed C (rowsOf area)
@@ -130,7 +125,7 @@ area-read C area l h =
     let p : getD area 0 0 ≤ room = ltb-false _ _ (if-passed over 23 0 .0 (u .0)) in
     let r = reads C room (getD area 0 0) (drop 1 area) p (rw length-drop (omega arith)) (u .1) in
     let n : length (cut (getD area 0 0) (drop 1 area)) ≡ getD area 0 0 = length-cut (getD area 0 0) (drop 1 area) in
-    (head-tail area (omega arith) ∙ rw n (ap (λ (y : List ℕ). getD area 0 0 ∷ y) (rw (drop-drop (width * room) 1 area) at (r .0))), record { ascending = r .1; fits = rw n p })
+    (drop-cons area 0 0 (omega arith) ∙ rw n (ap (λ (y : List ℕ). getD area 0 0 ∷ y) (rw (drop-drop (width * room) 1 area) at (r .0))), record { ascending = r .1; fits = rw n p })
 
 -- row k of an area, counted from 0
 abbrev pub rowIn : List ℕ → ℕ → Notice

@@ -2,11 +2,11 @@
 use mathlib.Core.Path.{_≡_, refl, sym, _∙_}
 use mathlib.Core.Logic.{⊎-elim}
 use mathlib.Core.List.{List, [], _∷_, _++_, append-nil}
-use Prim.Native.Nat.{ℕ, suc, _+_, _*_, _-_, _<_, _≤_, max}
+use Prim.Native.Nat.{ℕ, _+_, _*_, _-_, _<_, max}
 use native.Mathlib.Nat.{sub-zero}
 use native.Mathlib.Omega.{arith}
 use lib.ListN.{length, getD, set, drop, replicate, length-set, length-replicate, getD-replicate}
-use lib.Seq.{drop-length, getD-set-same, getD-set-other, set-out}
+use lib.Seq.{drop-length, getD-set-same, getD-set-other}
 use Rattle.model.specs.Least.{tab}
 use Rattle.model.specs.Notices.{Notice, width, cut}
 use Rattle.model.specs.Times.{primaryDelay}
@@ -14,7 +14,7 @@ use Rattle.model.proofs.Tests.{by-eq}
 use Rattle.model.proofs.Tab.{tab-is, tab-same}
 use Rattle.model.proofs.Times.{primary-its, primary-other}
 use Rattle.notices.specs.Rows.{raised}
-use Rattle.notices.proofs.Places.{rowOf, cut-more}
+use Rattle.notices.proofs.Places.{rowOf, one-less, cut-more}
 
 -- without rows no delay is raised
 raised-none : (ds : List ℕ) → raised [] ds ≡ ds
@@ -71,14 +71,9 @@ raise-start rows ds n = rw sub-zero
 pub raise-row : {x : List ℕ} (rows ds : List ℕ) (n k : ℕ) → k < n → toRaise rows (width * k) (n - k) ds ≡ x
     → toRaise rows (width * (k + 1)) (n - (k + 1)) (lift rows (width * k) ds) ≡ x
 raise-row rows ds n k h i =
-    let b : n - k ≡ suc (n - (k + 1)) = omega arith in
     let d : width * (k + 1) ≡ width * k + width = omega arith in
-    rw d (sym (rw cut-more (raised-row (rowOf rows (width * k)) (cut (n - (k + 1)) (drop (width * k + width) rows)) ds)) ∙ (rw b at i))
+    rw d (sym (rw cut-more (raised-row (rowOf rows (width * k)) (cut (n - (k + 1)) (drop (width * k + width) rows)) ds)) ∙ (rw (one-less n k h) at i))
 
 pub raise-end : (rows ds : List ℕ) (n k : ℕ) → k ≡ n → toRaise rows (width * k) (n - k) ds ≡ ds
 unfolding cut
 raise-end rows ds n k e = let z : n - k ≡ 0 = omega arith in rw z (raised-none ds)
-
--- a row of a connection past the delays changes nothing
-pub lift-out : (ds : List ℕ) (c d : ℕ) → length ds ≤ c → ds ≡ set ds c (max (getD ds c 0) d)
-lift-out ds c d h = sym (set-out ds c (max (getD ds c 0) d) h)

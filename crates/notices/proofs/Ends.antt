@@ -1,40 +1,19 @@
 -- After the last turn of entering and striking: the area of the notices that stand then. Assumes nothing.
 use mathlib.Core.Path.{_≡_, refl, ap, sym, _∙_}
-use mathlib.Core.Logic.{⊎-elim}
-use mathlib.Core.Bool.{true, false≢true}
+use mathlib.Core.Bool.{true}
 use mathlib.Core.List.{List, [], _∷_, _++_, append-assoc, append-nil}
 use Prim.Native.Nat.{ℕ, suc, _+_, _*_, _-_, _≤_, _<_}
 use native.Mathlib.Numerals.{add-one}
 use native.Mathlib.Nat.{add-zero}
 use native.Mathlib.Omega.{arith}
-use borrow.Author.Tests.{eq-eqb, ne-eqb}
 use lib.ListN.{length, getD, take, drop, set, replicate, length-append, length-replicate, length-take, replicate-append-replicate}
 use lib.Seq.{drop-drop, drop-at}
 use Rattle.model.specs.Notices.{Notice, notice, width, room, noticesLength, flat, cut, areaOf, rowsOf, entered, struck, stands}
-use Rattle.model.proofs.Tests.{by-eq}
 use Rattle.model.proofs.Areas.{length-flat, count-rows}
-use Rattle.model.proofs.Kept.{length-entered}
+use Rattle.model.proofs.Kept.{length-entered, length-struck}
 use Rattle.notices.specs.Kept.{Rising, Kept}
 use Rattle.notices.specs.Rows.{putRow}
 use Rattle.notices.proofs.Turns.{toPush, pushed, pushed-entered, push-end, toKeep}
-
--- a number below all rows strikes none
-struck-none : (before m : ℕ) (ns : List Notice) → m ≤ before → Rising before ns → struck m ns ≡ ns
-unfolding struck
-struck-none before m [] l h = refl
-struck-none before m (n ∷ ns) l h =
-    rw (ne-eqb (n .number) m (λ (e : n .number ≡ m). omega (arith, h .0)))
-    (ap (λ (r : List Notice). n ∷ r) (struck-none (n .number) m ns (omega (arith, h .0)) (h .1)))
-
--- a number that stands strikes one
-length-struck : (before m : ℕ) (ns : List Notice) → stands m ns ≡ true → Rising before ns → suc (length (struck m ns)) ≡ length ns
-unfolding struck stands
-length-struck before m [] s h = absurd (false≢true s)
-length-struck before m (n ∷ ns) s h =
-    ⊎-elim
-    (λ (e : n .number ≡ m). rw (eq-eqb (n .number) m e, struck-none (n .number) m ns (omega arith) (h .1)))
-    (λ (e : n .number ≡ m → ⊥). rw (ne-eqb (n .number) m e) (ap suc (length-struck (n .number) m ns (rw (ne-eqb (n .number) m e) at s) (h .1))))
-    (by-eq (n .number) m)
 
 -- the unused rows of an area, from some row on
 zeros-past : (ns : List Notice) (rest : List ℕ) (m : ℕ) → length ns + m ≤ room
@@ -113,7 +92,7 @@ module _ (area₀ area : List ℕ) (number w k : ℕ) (s : Kept area₀) (t : st
   -- one row is left over
   pub strike-room : w + 1 ≡ getD area₀ 0 0
   strike-room =
-      let p = length-struck 0 number (rowsOf area₀) t (s .rising) in
+      let p = length-struck Rising (λ before n ns h. h .0) (λ before n ns h. h .1) 0 number (rowsOf area₀) t (s .rising) in
       omega (arith, count-left, p, count-rows area₀)
 
   -- it becomes 0

@@ -3,12 +3,12 @@ use mathlib.Core.Path.{_≡_, refl, ap}
 use mathlib.Core.List.{List, [], _∷_, _++_}
 use Prim.Native.Nat.{ℕ, zero, suc, _+_, _*_, _-_, _/_, _≤_}
 use native.Mathlib.Omega.{arith}
-use lib.ListN.{length, getD, take, drop, length-append, length-drop}
+use lib.ListN.{length, getD, take, drop, length-drop}
 use borrow.Rule.Slice.PartMut.{midOf, mid-len}
 use Rattle.timetable.specs.File.{connections}
 use Rattle.model.specs.Notices.{Notice, width, noticesLength, rowAt, cut, areaOf, rowsOf, Ascending, WellFormed}
 use Rattle.model.specs.Ready.{Ready}
-use Rattle.model.proofs.Areas.{row-more, length-area, rows-area, past-area, count-rows}
+use Rattle.model.proofs.Areas.{row-more, count-rows}
 use Rattle.notices.specs.Kept.{Rising, Kept}
 
 -- rows that may stand are in ascending order
@@ -25,13 +25,6 @@ formed-kept C area l w e =
 -- the area of an operation whose checks have passed
 pub ready-kept : (f notices graph : List ℕ) → Ready f notices graph → Kept notices
 ready-kept f notices graph r = formed-kept (connections f) notices (r .long) (r .rows) (r .noted)
-
--- an area written for well-formed notices
-pub area-kept : (C : ℕ) (ns : List Notice) (rest : List ℕ) → WellFormed C ns → Kept (areaOf ns ++ rest)
-area-kept C ns rest w =
-    let l = length-area ns (w .fits) in
-    let n : rowsOf (areaOf ns ++ rest) ≡ ns = rows-area ns rest in
-    formed-kept C (areaOf ns ++ rest) (rw length-append (omega arith)) (rw n w) (rw (n, past-area ns rest (w .fits)))
 
 -- rows read from just their numbers
 cut-take : (k : ℕ) (xs : List ℕ) → width * k ≤ length xs → cut k (take (width * k) xs) ≡ cut k xs

@@ -11,7 +11,6 @@ use native.Mathlib.Omega.{arith}
 use borrow.Author.Tests.{lt-ltb, le-ltb, eq-eqb, ne-eqb}
 use lib.Dec.{ltb, eqb}
 use lib.ListN.{length, getD, take, drop}
-use lib.Seq.{drop-drop}
 use Rattle.timetable.specs.Answers.{refuseIf, orElse}
 use Rattle.timetable.specs.declared.Verdict.{Verdict}
 use Rattle.timetable.specs.declared.Verdict.the-variants.{Passed, Refused}
@@ -19,7 +18,11 @@ use Rattle.model.specs.Notices.{Notice, width, room, flat, cut, entered, struck
 use Rattle.model.proofs.Tests.{by-bool}
 use Rattle.notices.specs.Kept.{Rising}
 use Rattle.notices.specs.Rows.{putRow}
-use Rattle.notices.proofs.Places.{rowOf, cut-more, take-put, drop-put, take-row}
+use Rattle.notices.proofs.Places.{rowOf, one-less, cut-more, take-put, drop-put, take-row}
+
+-- one row further on
+next-row : (k : ℕ) → 1 + width * (k + 1) ≡ 1 + width * k + width
+next-row k = omega arith
 
 -- the check of the rows from row k on, counted from 0
 abbrev pub toCheck : ℕ → List ℕ → ℕ → ℕ → ℕ → Verdict
@@ -38,22 +41,16 @@ module _ (C : ℕ) (area : List ℕ) (count k before : ℕ) where
       → toCheck C area count k before
       ≡ orElse (refuseIf (not (standsRight C before (rowOf area (1 + width * k)))) 23 (k + 1)) (toCheck C area count (k + 1) (getD area (1 + width * k) 0))
   unfolding rowsFrom
-  check-standing h l =
-      let a : room - k ≡ suc (room - (k + 1)) = omega arith in
-      let b : count - k ≡ suc (count - (k + 1)) = omega arith in
-      let d : 1 + width * (k + 1) ≡ 1 + width * k + width = omega arith in
-      rw (a, b, d, cut-more, ← (add-one (k + 1)))
+  check-standing h l = rw (one-less room k (omega arith), one-less count k h, next-row k, cut-more, ← (add-one (k + 1)))
 
   check-unused : count ≤ k → k < room
       → toCheck C area count k before
       ≡ orElse (refuseIf (not (unusedRight (rowOf area (1 + width * k)))) 23 (k + 1)) (toCheck C area count (k + 1) before)
   unfolding rowsFrom
   check-unused h l =
-      let a : room - k ≡ suc (room - (k + 1)) = omega arith in
       let b : count - k ≡ 0 = omega arith in
       let b′ : count - (k + 1) ≡ 0 = omega arith in
-      let d : 1 + width * (k + 1) ≡ 1 + width * k + width = omega arith in
-      rw (a, b, b′, d, cut-more, ← (add-one (k + 1)))
+      rw (one-less room k l, b, b′, next-row k, cut-more, ← (add-one (k + 1)))
 
   -- a row that stands: the check stops at it, or goes on
   pub standing-wrong : {x : Verdict} {r : Bool} → k < count → count ≤ room → r ≡ standsRight C before (rowOf area (1 + width * k)) → not r ≡ true
@@ -81,10 +78,7 @@ module _ {x : Bool} (area : List ℕ) (count k number : ℕ) (h : k < count) (i 
   find-row : toFind area (1 + width * k) (count - k) number
       ≡ cond (eqb (getD area (1 + width * k) 0) number) true (toFind area (1 + width * (k + 1)) (count - (k + 1)) number)
   unfolding stands
-  find-row =
-      let b : count - k ≡ suc (count - (k + 1)) = omega arith in
-      let d : 1 + width * (k + 1) ≡ 1 + width * k + width = omega arith in
-      rw (b, d, cut-more)
+  find-row = rw (one-less count k h, next-row k, cut-more)
 
   pub find-here : getD area (1 + width * k) 0 ≡ number → true ≡ x
   find-here e = sym (find-row ∙ rw (eq-eqb _ _ e)) ∙ i
@@ -141,16 +135,12 @@ module _ {x : List ℕ} (area : List ℕ) (count k : ℕ) (a : Notice) (l : 1 + 
   pub enter-swap : a .number < getD area (1 + width * k) 0
       → toPush (putRow area (1 + width * k) a) (1 + width * (k + 1)) (count - (k + 1)) (1 + width + width * count) (rowOf area (1 + width * k)) ≡ x
   enter-swap e =
-      let b : count - k ≡ suc (count - (k + 1)) = omega arith in
-      let d : 1 + width * (k + 1) ≡ 1 + width * k + width = omega arith in
-      rw d (sym (push-swap area (1 + width * k) (count - (k + 1)) (1 + width + width * count) a (omega arith) l e) ∙ (rw b at i))
+      rw (next-row k) (sym (push-swap area (1 + width * k) (count - (k + 1)) (1 + width + width * count) a (omega arith) l e) ∙ (rw (one-less count k h) at i))
 
   pub enter-keep : getD area (1 + width * k) 0 ≤ a .number
       → toPush area (1 + width * (k + 1)) (count - (k + 1)) (1 + width + width * count) a ≡ x
   enter-keep e =
-      let b : count - k ≡ suc (count - (k + 1)) = omega arith in
-      let d : 1 + width * (k + 1) ≡ 1 + width * k + width = omega arith in
-      rw d (sym (push-keep area (1 + width * k) (count - (k + 1)) (1 + width + width * count) a (omega arith) l e) ∙ (rw b at i))
+      rw (next-row k) (sym (push-keep area (1 + width * k) (count - (k + 1)) (1 + width + width * count) a (omega arith) l e) ∙ (rw (one-less count k h) at i))
 
 -- striking: w numbers are done, m rows from the place on are to do
 abbrev pub toKeep : List ℕ → ℕ → ℕ → ℕ → ℕ → List ℕ
@@ -174,26 +164,9 @@ module _ {x : List ℕ} (area : List ℕ) (count k w number : ℕ) (l : 1 + widt
   pub strike-keep : (getD area (1 + width * k) 0 ≡ number → ⊥)
       → toKeep (putRow area (1 + width * w) (rowOf area (1 + width * k))) (1 + width * (w + 1)) (1 + width * (k + 1)) (count - (k + 1)) number ≡ x
   strike-keep e =
-      let b : count - k ≡ suc (count - (k + 1)) = omega arith in
-      let d : 1 + width * (k + 1) ≡ 1 + width * k + width = omega arith in
-      let d′ : 1 + width * (w + 1) ≡ 1 + width * w + width = omega arith in
-      rw (d, d′) (sym (keep-row area (1 + width * w) (1 + width * k) (count - (k + 1)) number (omega arith) (omega arith) e) ∙ (rw b at i))
+      rw (next-row k, next-row w) (sym (keep-row area (1 + width * w) (1 + width * k) (count - (k + 1)) number (omega arith) (omega arith) e) ∙ (rw (one-less count k h) at i))
 
   pub strike-skip : getD area (1 + width * k) 0 ≡ number
       → toKeep area (1 + width * w) (1 + width * (k + 1)) (count - (k + 1)) number ≡ x
   strike-skip e =
-      let b : count - k ≡ suc (count - (k + 1)) = omega arith in
-      let d : 1 + width * (k + 1) ≡ 1 + width * k + width = omega arith in
-      rw d (sym (keep-none area (1 + width * w) (1 + width * k) (count - (k + 1)) number (omega arith) (omega arith) e) ∙ (rw b at i))
-
--- what two areas share from a row on, they share from the next on
-pub shared-next : (xs ys : List ℕ) (k : ℕ) → drop (1 + width * k) xs ≡ drop (1 + width * k) ys
-    → drop (1 + width * (k + 1)) xs ≡ drop (1 + width * (k + 1)) ys
-shared-next xs ys k e =
-    let d : 1 + width * (k + 1) ≡ 1 + width * k + width = omega arith in
-    rw (d, ← (drop-drop width (1 + width * k) xs), ← (drop-drop width (1 + width * k) ys), e)
-
--- a row written before changes nothing there
-pub shared-put : (xs : List ℕ) (k w : ℕ) (n : Notice) → w ≤ k → 1 + width * w + width ≤ length xs
-    → drop (1 + width * (k + 1)) (putRow xs (1 + width * w) n) ≡ drop (1 + width * (k + 1)) xs
-shared-put xs k w n l h = drop-put xs (1 + width * w) n h (1 + width * (k + 1)) (omega arith)
+      rw (next-row k) (sym (keep-none area (1 + width * w) (1 + width * k) (count - (k + 1)) number (omega arith) (omega arith) e) ∙ (rw (one-less count k h) at i))

@@ -1,11 +1,16 @@
 -- Laws of an area of bytes as an area of numbers: how many numbers, which number stands where, what is written is
--- read again, and what is not written stays. Assumes nothing.
+-- read again, and what is not written stays; the same of the front of an area. Assumes nothing.
 use mathlib.Core.Path.{_≡_, refl, ap}
 use mathlib.Core.List.{List, [], _∷_, _++_}
-use Prim.Native.Nat.{ℕ, zero, suc, _+_, _*_, _<_, _≤_, _/_, _%_}
+use Prim.Native.Nat.{ℕ, zero, suc, _+_, _*_, _<_, _≤_, _/_, _%_, min}
 use native.Mathlib.Omega.{arith}
-use lib.ListN.{length, getD, drop}
+use lib.ListN.{length, getD, take, drop}
+use lib.Seq.{take-nil}
 use Rattle.numbers.specs.Numbers.{byteSize, numberAt, numbersOf, over, overBytes}
+
+-- a list of bytes
+abbrev pub Bytes : List ℕ → Type 0
+Bytes bytes = (i : ℕ) → getD bytes i 0 < byteSize
 
 -- an area has half as many numbers as bytes
 pub length-numbers : (bytes : List ℕ) → length (numbersOf bytes) ≡ length bytes / 2
@@ -26,23 +31,8 @@ number-at (low ∷ high ∷ bytes) (suc i) h =
     rw (e, d) (number-at bytes i (omega arith))
 
 -- a number is below 65536 when the bytes are bytes
-pub number-fits : (bytes : List ℕ) → ((i : ℕ) → getD bytes i 0 < byteSize) → (p : ℕ) → numberAt bytes p < 65536
+pub number-fits : (bytes : List ℕ) → Bytes bytes → (p : ℕ) → numberAt bytes p < 65536
 number-fits bytes b p = omega (arith, b p, b (p + 1))
-
--- so is every number of an area
-pub numbers-fit : (bytes : List ℕ) → ((i : ℕ) → getD bytes i 0 < byteSize) → (i : ℕ) → getD (numbersOf bytes) i 0 < 65536
-unfolding numbersOf
-numbers-fit [] b i = omega arith
-numbers-fit (low ∷ []) b i = omega arith
-numbers-fit (low ∷ high ∷ bytes) b zero = omega (arith, b 0, b 1)
-numbers-fit (low ∷ high ∷ bytes) b (suc i) = numbers-fit bytes (λ (j : ℕ). b (suc (suc j))) i
-
--- an area of numbers keeps its length
-pub length-over : (ns area : List ℕ) → length (over ns area) ≡ length area
-unfolding over
-length-over [] area = refl
-length-over (n ∷ ns) [] = refl
-length-over (n ∷ ns) (x ∷ area) = ap suc (length-over ns area)
 
 -- an area of bytes keeps its length
 pub length-over-bytes : (ns bytes : List ℕ) → length (overBytes ns bytes) ≡ length bytes
@@ -63,7 +53,7 @@ read-written (n ∷ ns) (x ∷ y ∷ bytes) =
     rw (e, read-written ns bytes)
 
 -- an area's own numbers written over it leave it as it is
-pub written-read : (bytes : List ℕ) → ((i : ℕ) → getD bytes i 0 < byteSize) → overBytes (numbersOf bytes) bytes ≡ bytes
+pub written-read : (bytes : List ℕ) → Bytes bytes → overBytes (numbersOf bytes) bytes ≡ bytes
 unfolding numbersOf overBytes
 written-read [] b = refl
 written-read (low ∷ []) b = refl
@@ -83,14 +73,6 @@ odd-stays (n ∷ ns) (x ∷ y ∷ bytes) (suc k) h =
     let d : 2 * suc k ≡ suc (suc (2 * k)) = omega arith in
     rw d (odd-stays ns bytes k (omega arith))
 
--- numbers past the written ones stay
-pub drop-over : (ns area : List ℕ) (k : ℕ) → length ns ≤ k → drop k (over ns area) ≡ drop k area
-unfolding over
-drop-over [] area k h = refl
-drop-over (n ∷ ns) [] k h = refl
-drop-over (n ∷ ns) (x ∷ area) zero h = absurd (omega arith)
-drop-over (n ∷ ns) (x ∷ area) (suc k) h = drop-over ns area k (omega arith)
-
 -- bytes past the written numbers stay
 pub drop-over-bytes : (ns bytes : List ℕ) (k : ℕ) → 2 * length ns ≤ k → drop k (overBytes ns bytes) ≡ drop k bytes
 unfolding overBytes
@@ -101,17 +83,42 @@ drop-over-bytes (n ∷ ns) (x ∷ y ∷ bytes) zero h = absurd (omega arith)
 drop-over-bytes (n ∷ ns) (x ∷ y ∷ bytes) (suc zero) h = absurd (omega arith)
 drop-over-bytes (n ∷ ns) (x ∷ y ∷ bytes) (suc (suc k)) h = drop-over-bytes ns bytes k (omega arith)
 
--- as many numbers as the area has: they are the area
-pub over-all : (ns area : List ℕ) → length ns ≡ length area → over ns area ≡ ns
-unfolding over
-over-all [] [] h = refl
-over-all [] (x ∷ area) h = absurd (omega arith)
-over-all (n ∷ ns) [] h = absurd (omega arith)
-over-all (n ∷ ns) (x ∷ area) h = rw (over-all ns area (omega arith))
-
 -- no more numbers than the area has: they are its front
 pub over-front : (ns area : List ℕ) → length ns ≤ length area → over ns area ≡ ns ++ drop (length ns) area
 unfolding over
 over-front [] area h = refl
 over-front (n ∷ ns) [] h = absurd (omega arith)
 over-front (n ∷ ns) (x ∷ area) h = rw (over-front ns area (omega arith))
+
+-- no fewer numbers than the area has: it is their front
+pub over-take : (ns area : List ℕ) → length area ≤ length ns → over ns area ≡ take (length area) ns
+unfolding over
+over-take [] [] h = refl
+over-take [] (x ∷ area) h = absurd (omega arith)
+over-take (n ∷ ns) [] h = refl
+over-take (n ∷ ns) (x ∷ area) h = rw (over-take ns area (omega arith))
+
+-- the first k of a list, as many as it has
+take-least : (k i : ℕ) (l : List ℕ) → i ≡ min k (length l) → take i l ≡ take k l
+take-least k i [] h = simp take-nil
+take-least zero zero (x ∷ l) h = refl
+take-least zero (suc i) (x ∷ l) h = absurd (omega arith)
+take-least (suc k) zero (x ∷ l) h = absurd (omega arith)
+take-least (suc k) (suc i) (x ∷ l) h = rw (take-least k i l (omega arith))
+
+-- as many numbers as the front of k has: that front
+pub front-read : (k : ℕ) (bytes : List ℕ) (i : ℕ) → i ≡ min k (length bytes / 2) → take i (numbersOf bytes) ≡ take k (numbersOf bytes)
+front-read k bytes i h = take-least k i (numbersOf bytes) (omega (arith, length-numbers bytes))
+
+-- a front written back, with or without what lies behind it
+pub front-written : (k : ℕ) (front bytes : List ℕ) → length front ≡ min k (length bytes / 2) → Bytes bytes
+    → overBytes front bytes ≡ overBytes (front ++ drop k (numbersOf bytes)) bytes
+unfolding numbersOf overBytes
+front-written zero [] bytes h b = rw (written-read bytes b)
+front-written zero (n ∷ ns) bytes h b = absurd (omega arith)
+front-written (suc k) [] [] h b = refl
+front-written (suc k) [] (x ∷ []) h b = refl
+front-written (suc k) [] (x ∷ y ∷ bytes) h b = absurd (omega arith)
+front-written (suc k) (n ∷ ns) [] h b = refl
+front-written (suc k) (n ∷ ns) (x ∷ []) h b = refl
+front-written (suc k) (n ∷ ns) (x ∷ y ∷ bytes) h b = rw (front-written k ns bytes (omega arith) (λ (i : ℕ). b (suc (suc i))))

@@ -5,13 +5,16 @@ use Prim.Native.Nat.{ℕ, _/_, min}
 use native.Mathlib.Omega.{arith}
 use lib.ListN.{length, take, drop}
 use Rattle.numbers.specs.Numbers.{numbersOf, overBytes}
+use Rattle.numbers.proofs.Areas.{Bytes, front-read, front-written}
 use Rattle.timetable.specs.Answers.{Answer}
-use Rattle.timetable.specs.Check.{maxConnections}
+use Rattle.timetable.specs.Check.{maxConnections, fileVerdict}
+use Rattle.timetable.specs.File.{connections}
+use Rattle.timetable.specs.declared.Verdict.the-variants.{Passed}
+use Rattle.timetable.proofs.Accepted.{accepted-iff}
 use Rattle.model.specs.Notices.{noticesLength}
-use Rattle.model.specs.Operations.{Outcome, outcome, built, posted, withdrawn, Arrival, Enquiry, enquiry, enquired, margined}
-use Rattle.model.proofs.Fronts.{behind, behindEnquiry, front-built, front-posted, front-withdrawn, front-margined, front-enquired}
+use Rattle.model.specs.Operations.{graphLength, Outcome, outcome, built, posted, withdrawn, Arrival, Enquiry, enquiry, enquired, margined}
+use Rattle.model.proofs.Fronts.{Covers, behind, behindEnquiry, front-built, front-posted, front-withdrawn, front-margined, front-enquired}
 use Rattle.panel.specs.Fronts.{mostGraph}
-use Rattle.panel.proofs.Fronts.{Bytes, front-read, front-written, graph-covers, connections-cover}
 
 -- the front of a notice area and that of a graph area
 abbrev noticesFront : List ℕ → List ℕ
@@ -19,6 +22,13 @@ noticesFront area = take noticesLength area
 
 abbrev graphFront : List ℕ → List ℕ
 graphFront area = take mostGraph area
+
+-- the fronts are long enough for an accepted timetable
+graph-covers : (f area : List ℕ) → fileVerdict f ≡ Passed → Covers mostGraph (graphLength f) area
+graph-covers f area h = let t = accepted-iff f .0 h in omega (arith, t .few, t .few-stops)
+
+connections-cover : (f area : List ℕ) → fileVerdict f ≡ Passed → Covers maxConnections (connections f) area
+connections-cover f area h = let t = accepted-iff f .0 h in omega (arith, t .few)
 
 -- an operation that does on the fronts what it does on the areas
 abbrev pub Fronted : {A : Type 0} → (List ℕ → List ℕ → Outcome A) → Type 0

@@ -1,13 +1,11 @@
 -- What stands in a list of times, for those who hand it to the filler of events. Assumes nothing.
 use mathlib.Core.Path.{_≡_, _∙_, sym}
 use mathlib.Core.Logic.{⊎-elim}
-use mathlib.Core.List.{List, _++_}
 use Prim.Native.Nat.{ℕ, _+_, _*_, _/_, _<_, _≤_}
 use native.Mathlib.Omega.{arith}
-use lib.ListN.{length, getD, length-append, List·getD-append}
-use Rattle.model.specs.Least.{tab}
+use lib.ListN.{getD}
 use Rattle.model.specs.Network.{Network, Sound, lastExpected}
-use Rattle.model.specs.Graph.{waiting, transfer, firstDeparture, times, graphOf}
+use Rattle.model.specs.Graph.{times}
 use Rattle.model.proofs.Tests.{by-eq}
 use Rattle.model.proofs.GraphArea.{length-times, in-times, departure-entry, arrival-entry}
 use Rattle.times.specs.Times.{Timed}

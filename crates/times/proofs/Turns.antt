@@ -6,8 +6,8 @@ use mathlib.Core.List.{List, [], _∷_, _++_, append-nil}
 use Prim.Native.Nat.{ℕ, zero, suc, _+_, _*_, _<_, _≤_, max}
 use native.Mathlib.Numerals.{add-one}
 use native.Mathlib.Omega.{arith}
-use lib.ListN.{length, getD, drop, set}
-use lib.Seq.{drop-cons, drop-length}
+use lib.ListN.{length, getD, drop, set, length-append, length-drop}
+use lib.Seq.{drop-append-add, drop-drop, drop-length, sets-eq, take-at}
 use Rattle.timetable.specs.File.{connections, scheduledDeparture, scheduledArrival, staysAboard}
 use Rattle.timetable.specs.Room.{HasConnection}
 use Rattle.timetable.proofs.Accepted.{room-for}
@@ -57,23 +57,18 @@ times-asked f s n delays c before o d h b =
       (b, omega (arith, d .most c h), omega (arith, o .timetable .within c k)),
     )
 
--- two stores behind the first 2 * c numbers
-two : (p : List ℕ) (x y a b : ℕ) (r : List ℕ) (k : ℕ) → length p ≡ k → set (set (p ++ x ∷ y ∷ r) k a) (k + 1) b ≡ p ++ (a ∷ b ∷ []) ++ r
-two [] x y a b r k e = rw (← e)
-two (z ∷ p) x y a b r zero e = absurd (omega arith)
-two (z ∷ p) x y a b r (suc k) e =
-    let q : suc k + 1 ≡ suc (k + 1) = omega arith in
-    rw (q, two p x y a b r k (omega arith))
-
 -- one turn
-pub times-turn : (net : Network) (c : ℕ) (area : List ℕ) → 2 * c + 1 < length area
+times-turn : (net : Network) (c : ℕ) (area : List ℕ) → 2 * c + 1 < length area
     → set (set (times net c ++ drop (2 * c) area) (2 * c) (net .departure c)) (2 * c + 1) (net .arrival c) ≡ times net (c + 1) ++ drop (2 * (c + 1)) area
 unfolding times
 times-turn net c area h =
-    let e : drop (2 * c) area ≡ getD area (2 * c) 0 ∷ getD area (suc (2 * c)) 0 ∷ drop (suc (suc (2 * c))) area =
-    drop-cons area (2 * c) 0 (omega arith) ∙ rw (drop-cons area (suc (2 * c)) 0 (omega arith)) in
-    let n : 2 * (c + 1) ≡ suc (suc (2 * c)) = omega arith in
-    rw (e, n, add-one c) (two (times net c) _ _ (net .departure c) (net .arrival c) _ (2 * c) (length-times net c))
+    let l : length (times net c) ≡ 2 * c = length-times net c in
+    let n : 2 * (c + 1) ≡ 2 * c + 2 = omega arith in
+    let p : drop (2 * c + 2) (times net c ++ drop (2 * c) area) ≡ drop (2 * c + 2) area =
+    (rw l at (drop-append-add (times net c) (drop (2 * c) area) 2)) ∙ drop-drop 2 (2 * c) area in
+    rw (n, add-one c, add-one (2 * c))
+    (sets-eq (net .departure c ∷ net .arrival c ∷ []) (times net c ++ drop (2 * c) area) (2 * c) (rw (length-append, length-drop, l) (omega arith))
+    ∙ rw (take-at (times net c) (drop (2 * c) area) (2 * c) l, p))
 
 -- one turn in the code's numbers
 pub times-more : (net : Network) (c departure arrival : ℕ) (area area₀ : List ℕ) → area ≡ times net c ++ drop (2 * c) area₀ → 2 * c + 1 < length area₀

@@ -4,9 +4,8 @@ use mathlib.Core.Bool.{cond}
 use mathlib.Core.List.{List, _++_}
 use Prim.Native.Nat.{ℕ, _+_, _*_, _<_, _≤_, max}
 use lib.ListN.{length, getD, drop}
-use Rattle.timetable.specs.File.{stops, connections, transferTime, scheduledDeparture, staysAboard}
+use Rattle.timetable.specs.File.{connections, transferTime, scheduledDeparture, staysAboard}
 use Rattle.timetable.specs.File as file
-use Rattle.timetable.specs.Accepted.{Timetable}
 use Rattle.model.specs.Notices.{noticesLength, mostStanding, areaOf, rowsOf, WellFormed}
 use Rattle.model.specs.Network.{Network, lastExpected}
 use Rattle.model.specs.Times.{networkWith}

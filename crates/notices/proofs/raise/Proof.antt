@@ -4,9 +4,10 @@ use mathlib.Core.Logic.{⊎-elim}
 use Prim.Native.Nat.{_≤_, _+_, _*_, _-_, _/_}
 use native.Mathlib.Omega.{arith}
 use lib.ListN.{length, getD, length-set}
+use lib.Seq.{set-out}
 use Rattle.model.specs.Notices.{width, cut}
 use Rattle.notices.specs.Rows.{raised}
-use Rattle.notices.proofs.Delays.{toRaise, lift, raise-start, raise-row, raise-end, lift-out}
+use Rattle.notices.proofs.Delays.{toRaise, lift, raise-start, raise-row, raise-end}
 use borrow.Author.Needs.{needs}
 use Rattle.notices.proofs.raise.Statement.{statement}
 use Rattle.notices.proofs.raise.Tie as tie
@@ -75,7 +76,7 @@ loop-again c =
     let r = getD (a .rows .now) (width * l .loop .k + 1) 0 in
     let d = getD (a .rows .now) (width * l .loop .k + 2) 0 in
     let e : c .if1 .delays ≡ lift (a .rows .now) (width * l .loop .k) ds =
-    ⊎-elim (λ w. rw (← (w .2 .ensures)) (w .3)) (λ w. w .1 ∙ lift-out ds r d (w .0 .left)) (c .if1 .came) in
+    ⊎-elim (λ w. rw (← (w .2 .ensures)) (w .3)) (λ w. w .1 ∙ sym (set-out ds r _ (w .0 .left))) (c .if1 .came) in
     rw e (omega arith, simp length-set (l .loop .inv .1), raise-row (a .rows .now) ds _ (l .loop .k) (c .before .before .before .loop-test .taken) (l .loop .inv .2))
 
 same-length : tie.Need-same-length Inv-loop μ-loop

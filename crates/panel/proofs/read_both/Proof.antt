@@ -4,8 +4,7 @@ use Prim.Native.Nat.{_≤_}
 use native.Mathlib.Omega.{arith}
 use lib.ListN.{length}
 use Rattle.numbers.specs.Numbers.{numbersOf}
-use Rattle.numbers.proofs.Areas.{length-numbers}
-use Rattle.panel.proofs.Fronts.{over-take}
+use Rattle.numbers.proofs.Areas.{length-numbers, over-take}
 use borrow.Author.Needs.{needs}
 use Rattle.panel.proofs.read_both.Statement.{statement}
 use Rattle.panel.proofs.read_both.Tie as tie

@@ -43,14 +43,27 @@ fn grouped(n: f64) -> String {
 
 fn table(counts: &Counts) {
     let sizes = sizes(counts);
-    let heads: Vec<String> = sizes.iter().map(|c| format!("C = {}", grouped(*c as f64))).collect();
+    let heads: Vec<String> = sizes
+        .iter()
+        .map(|c| format!("C = {}", grouped(*c as f64)))
+        .collect();
     println!("| Operation | | {} |", heads.join(" | "));
     println!("|---|---|{}", "---|".repeat(sizes.len()));
     for (op, name) in OPERATIONS.iter().enumerate() {
-        let row = |side: bool| -> Vec<f64> { sizes.iter().map(|c| counts[&(*c, op, side)]).collect() };
+        let row =
+            |side: bool| -> Vec<f64> { sizes.iter().map(|c| counts[&(*c, op, side)]).collect() };
         let (library, rust) = (row(true), row(false));
-        let cells = |v: &[f64]| v.iter().map(|n| grouped(*n)).collect::<Vec<_>>().join(" | ");
-        let ratios: Vec<String> = library.iter().zip(&rust).map(|(a, b)| format!("{:.2}", a / b)).collect();
+        let cells = |v: &[f64]| {
+            v.iter()
+                .map(|n| grouped(*n))
+                .collect::<Vec<_>>()
+                .join(" | ")
+        };
+        let ratios: Vec<String> = library
+            .iter()
+            .zip(&rust)
+            .map(|(a, b)| format!("{:.2}", a / b))
+            .collect();
         println!("| {name} | library | {} |", cells(&library));
         println!("| | Rust | {} |", cells(&rust));
         println!("| | ratio | {} |", ratios.join(" | "));
@@ -74,22 +87,52 @@ fn panel(svg: &mut String, counts: &Counts, op: usize, left: f64, top: f64) {
     let mut mark = 0.0;
     while mark <= most {
         let h = y(mark);
-        let _ = writeln!(svg, r##"<path d="M{left:.1} {h:.1}h{WIDE}" stroke="#ddd"/>"##);
-        let _ = writeln!(svg, r##"<text x="{:.1}" y="{:.1}" text-anchor="end">{}</text>"##, left - 5.0, h + 4.0, grouped(mark));
+        let _ = writeln!(
+            svg,
+            r##"<path d="M{left:.1} {h:.1}h{WIDE}" stroke="#ddd"/>"##
+        );
+        let _ = writeln!(
+            svg,
+            r##"<text x="{:.1}" y="{:.1}" text-anchor="end">{}</text>"##,
+            left - 5.0,
+            h + 4.0,
+            grouped(mark)
+        );
         mark += step;
     }
     for c in &sizes {
         if *c >= 500 {
-            let _ = writeln!(svg, r##"<text x="{:.1}" y="{:.1}" text-anchor="middle">{}</text>"##, x(*c), top + HIGH + 15.0, grouped(*c as f64));
+            let _ = writeln!(
+                svg,
+                r##"<text x="{:.1}" y="{:.1}" text-anchor="middle">{}</text>"##,
+                x(*c),
+                top + HIGH + 15.0,
+                grouped(*c as f64)
+            );
         }
     }
-    let _ = writeln!(svg, r##"<text x="{left:.1}" y="{:.1}" font-weight="bold">{}</text>"##, top - 8.0, OPERATIONS[op]);
+    let _ = writeln!(
+        svg,
+        r##"<text x="{left:.1}" y="{:.1}" font-weight="bold">{}</text>"##,
+        top - 8.0,
+        OPERATIONS[op]
+    );
     for (side, colour) in [(false, "#888"), (true, "#05a")] {
-        let points: Vec<String> = sizes.iter().map(|c| format!("{:.1},{:.1}", x(*c), y(counts[&(*c, op, side)]))).collect();
-        let _ = writeln!(svg, r##"<polyline points="{}" fill="none" stroke="{colour}" stroke-width="2"/>"##, points.join(" "));
+        let points: Vec<String> = sizes
+            .iter()
+            .map(|c| format!("{:.1},{:.1}", x(*c), y(counts[&(*c, op, side)])))
+            .collect();
+        let _ = writeln!(
+            svg,
+            r##"<polyline points="{}" fill="none" stroke="{colour}" stroke-width="2"/>"##,
+            points.join(" ")
+        );
         for p in &points {
             let (px, py) = p.split_once(',').unwrap_or(("0", "0"));
-            let _ = writeln!(svg, r##"<circle cx="{px}" cy="{py}" r="3" fill="{colour}"/>"##);
+            let _ = writeln!(
+                svg,
+                r##"<circle cx="{px}" cy="{py}" r="3" fill="{colour}"/>"##
+            );
         }
     }
 }
@@ -102,7 +145,13 @@ fn drawing(counts: &Counts) -> String {
 "##,
     );
     for op in 0..OPERATIONS.len() {
-        panel(&mut svg, counts, op, 70.0 + 305.0 * (op % 3) as f64, 60.0 + 225.0 * (op / 3) as f64);
+        panel(
+            &mut svg,
+            counts,
+            op,
+            70.0 + 305.0 * (op % 3) as f64,
+            60.0 + 225.0 * (op / 3) as f64,
+        );
     }
     svg.push_str("</svg>\n");
     svg
@@ -110,7 +159,10 @@ fn drawing(counts: &Counts) -> String {
 
 fn main() -> ExitCode {
     let mut text = String::new();
-    let (Some(path), Ok(_)) = (std::env::args().nth(1), std::io::stdin().read_to_string(&mut text)) else {
+    let (Some(path), Ok(_)) = (
+        std::env::args().nth(1),
+        std::io::stdin().read_to_string(&mut text),
+    ) else {
         eprintln!("usage: figures SVG");
         return ExitCode::FAILURE;
     };
