@@ -12,7 +12,7 @@ use Rattle.timetable.specs.declared.Verdict.the-variants.{Passed, Refused}
 use Rattle.timetable.proofs.Accepted.{accepted-iff}
 use Rattle.model.specs.Notices.{Notice, notice, rowsOf, entered, struck}
 use Rattle.model.specs.Operations.{Outcome, lengthsVerdict, contentsVerdict, outcome, concluded, built, posted, withdrawn, areasVerdict}
-use Rattle.graph.specs.Verdicts.{postingVerdict, withdrawalVerdict}
+use Rattle.checks.specs.Verdicts.{postingVerdict, withdrawalVerdict}
 use Rattle.graph.specs.Written.{Written}
 use Rattle.checks.proofs.Passed.{areas-passed}
 

@@ -11,69 +11,17 @@ ghost use Rattle.timetable.specs.declared.Verdict.the-variants.{Passed};
 ghost use Rattle.model.specs.Notices.{notice, rowsOf, entered, struck};
 ghost use Rattle.model.specs.Operations.{graphLength, graphFor, lengthsVerdict, outcome, built, posted, withdrawn};
 ghost use Rattle.model.specs.Ready.{Ready};
-ghost use Rattle.notices.specs.Kept.{Kept};
 ghost use Rattle.times.specs.Times.{Standing};
 ghost use Rattle.graph.specs.Answers.{toldNumber};
-ghost use Rattle.graph.specs.Verdicts.{postingVerdict, withdrawalVerdict};
+ghost use Rattle.checks.specs.Verdicts.{postingVerdict, withdrawalVerdict};
 ghost use Rattle.graph.specs.Written.{Written};
 use timetable::Checked;
 use timetable::Verdict;
-
-// No notice has this number.
-const NO_NUMBER: u16 = 0;
-
-// How many notices may stand: `room`.
-const ROOM: u16 = 200;
-
-// The shortest and the longest delay of a posting: `leastDelay` and `mostPosted`.
-const LEAST_DELAY: u16 = 1;
-
-const MOST_POSTED: u16 = 1440;
 
 // The answer of a posting or a withdrawal: the notice's number, or the refusal's number and place.
 pub enum Noted {
     Accepted(u16),
     Refused(u16, u16),
-}
-
-// Refusals 12, 13, 14, 25 and 26 of a posting, by the notices that stand.
-fn posting_verdict(notices: &[u16], n: u16, number: u16, connection: u16, delay: u16) -> Verdict
-    requires { ⌜ Kept (now notices) ⌝ }
-    ensures { λ r. ⌜ r ≡ postingVerdict n (rowsOf (now (notices .entry))) number connection delay ⌝ }
-{
-    if number == NO_NUMBER {
-        return Verdict::Refused(12, 0);
-    }
-    if n <= connection {
-        return Verdict::Refused(13, 0);
-    }
-    if delay < LEAST_DELAY {
-        return Verdict::Refused(14, 0);
-    }
-    if MOST_POSTED < delay {
-        return Verdict::Refused(14, 0);
-    }
-    if notices::is_standing(notices, number) {
-        return Verdict::Refused(25, 0);
-    }
-    if ROOM <= notices[0] {
-        return Verdict::Refused(26, 0);
-    }
-    Verdict::Passed
-}
-
-// Refusals 12 and 27 of a withdrawal, by the notices that stand.
-fn withdrawal_verdict(notices: &[u16], number: u16) -> Verdict
-    requires { ⌜ Kept (now notices) ⌝ }
-    ensures { λ r. ⌜ r ≡ withdrawalVerdict (rowsOf (now (notices .entry))) number ⌝ }
-{
-    if number == NO_NUMBER {
-        return Verdict::Refused(12, 0);
-    }
-    if !notices::is_standing(notices, number) {
-        return Verdict::Refused(27, 0);
-    }
-    Verdict::Passed
 }
 
 // The graph with the notices that stand.
@@ -180,7 +128,7 @@ pub fn post(
         }
         Verdict::Passed => {}
     }
-    let verdict = posting_verdict(notices, connections, number, connection, delay);
+    let verdict = checks::posting_verdict(notices, connections, number, connection, delay);
     match verdict {
         Verdict::Refused(refusal, place) => {
             return Noted::Refused(refusal, place);
@@ -208,7 +156,7 @@ pub fn withdraw(file: &[u8], notices: &mut [u16], graph: &mut [u16], number: u16
         }
         Verdict::Passed => {}
     }
-    let verdict = withdrawal_verdict(notices, number);
+    let verdict = checks::withdrawal_verdict(notices, number);
     match verdict {
         Verdict::Refused(refusal, place) => {
             return Noted::Refused(refusal, place);

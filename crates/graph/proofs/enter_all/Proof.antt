@@ -4,7 +4,8 @@ use Rattle.timetable.specs.File.{connections}
 use Rattle.model.specs.Notices.{Notice, notice, rowsOf, entered, WellFormed}
 use Rattle.model.proofs.Ready.{graph-room}
 use Rattle.notices.proofs.Standing.{ready-kept}
-use Rattle.graph.proofs.Passed.{posting-fits, posting-formed, written-standing, written}
+use Rattle.checks.proofs.Passed.{posting-fits, posting-formed}
+use Rattle.graph.proofs.Passed.{written-standing, written}
 use borrow.Author.Needs.{needs}
 use Rattle.graph.proofs.enter_all.Statement.{statement}
 use Rattle.graph.proofs.enter_all.Tie as tie

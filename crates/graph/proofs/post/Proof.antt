@@ -8,7 +8,7 @@ use Rattle.model.specs.Ready.{Ready}
 use Rattle.notices.proofs.Standing.{ready-kept}
 use Rattle.timetable.specs.Accepted.{Opened}
 use Rattle.model.specs.Operations.{areasVerdict}
-use Rattle.graph.specs.Verdicts.{postingVerdict}
+use Rattle.checks.specs.Verdicts.{postingVerdict}
 use Rattle.checks.proofs.Passed.{areas-ready}
 use Rattle.timetable.proofs.Answered.{opened-by, refused-by}
 use Rattle.graph.proofs.Outcomes.{posting, file-refuses, areas-refuse, call-refuses, call-accepted}

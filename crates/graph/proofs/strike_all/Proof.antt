@@ -5,7 +5,8 @@ use Rattle.model.specs.Notices.{Notice, rowsOf, struck, WellFormed}
 use Rattle.model.proofs.Kept.{struck-formed}
 use Rattle.model.proofs.Ready.{graph-room}
 use Rattle.notices.proofs.Standing.{ready-kept}
-use Rattle.graph.proofs.Passed.{withdrawal-stands, written-standing, written}
+use Rattle.checks.proofs.Passed.{withdrawal-stands}
+use Rattle.graph.proofs.Passed.{written-standing, written}
 use borrow.Author.Needs.{needs}
 use Rattle.graph.proofs.strike_all.Statement.{statement}
 use Rattle.graph.proofs.strike_all.Tie as tie

@@ -7,7 +7,7 @@ use Rattle.model.specs.Ready.{Ready}
 use Rattle.notices.proofs.Standing.{ready-kept}
 use Rattle.timetable.specs.Accepted.{Opened}
 use Rattle.model.specs.Operations.{areasVerdict}
-use Rattle.graph.specs.Verdicts.{withdrawalVerdict}
+use Rattle.checks.specs.Verdicts.{withdrawalVerdict}
 use Rattle.checks.proofs.Passed.{areas-ready}
 use Rattle.timetable.proofs.Answered.{opened-by, refused-by}
 use Rattle.graph.proofs.Outcomes.{withdrawal, file-refuses, areas-refuse, call-refuses, call-accepted}

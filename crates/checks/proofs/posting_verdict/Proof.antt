@@ -1,13 +1,13 @@
--- `graph::posting_verdict` meets its contract. Assumes nothing.
+-- `checks::posting_verdict` meets its contract. Assumes nothing.
 use native.Mathlib.Omega.{arith}
 use borrow.Author.Tests.{eq-eqb, ne-eqb, le-leb, lt-leb}
 use lib.ListN.{length}
 use Rattle.model.specs.Notices.{room, leastDelay, mostPosted, rowsOf}
 use Rattle.model.proofs.Areas.{count-rows}
-use Rattle.graph.specs.Verdicts.{postingVerdict}
+use Rattle.checks.specs.Verdicts.{postingVerdict}
 use borrow.Author.Needs.{needs}
-use Rattle.graph.proofs.posting_verdict.Statement.{statement}
-use Rattle.graph.proofs.posting_verdict.Tie as tie
+use Rattle.checks.proofs.posting_verdict.Statement.{statement}
+use Rattle.checks.proofs.posting_verdict.Tie as tie
 
 returns : tie.Need-returns
 unfolding postingVerdict

@@ -1,23 +1,23 @@
--- `panel::post_bytes` meets its contract: posting on the fronts leaves what posting on the areas leaves.
+-- `fronts::build_bytes` meets its contract: building on the fronts leaves what building on the areas leaves.
 -- Assumes nothing.
 use mathlib.Core.Path.{_∙_, ap}
-use Rattle.codes.specs.Encoded.{coded}
-use Rattle.panel.proofs.Ends.{posted-fronted, ends}
+use Rattle.codes.specs.Encoded.{codedCounts}
+use Rattle.fronts.proofs.Ends.{built-fronted, ends}
 use borrow.Author.Needs.{needs}
-use Rattle.panel.proofs.post_bytes.Statement.{statement}
-use Rattle.panel.proofs.post_bytes.Tie as tie
+use Rattle.fronts.proofs.build_bytes.Statement.{statement}
+use Rattle.fronts.proofs.build_bytes.Tie as tie
 
 read-both-requires : tie.Need-read-both-requires
 read-both-requires c κs = search needs
 
-post-requires : tie.Need-post-requires
-post-requires c κs = search needs
+build-requires : tie.Need-build-requires
+build-requires c κs = search needs
 
 write-both-requires : tie.Need-write-both-requires
 write-both-requires c κs = search needs
 
-code-noted-requires : tie.Need-code-noted-requires
-code-noted-requires c κs = search needs
+code-counts-requires : tie.Need-code-counts-requires
+code-counts-requires c κs = search needs
 
 same-length : tie.Need-same-length
 same-length c = search needs
@@ -46,21 +46,21 @@ returns c =
       first-read = r .read-both .ensures .0;
       second-read = r .read-both .ensures .1;
     })
-    (posted-fronted (s .args .file .now) (s .args .number) (s .args .ride) (s .args .delay)) (λ i. known .before .slice-known .given i .fits) (λ i. known .slice-known2 .given i .fits) (b .post .ensures)
-    (b .post .kept .1 .0 ∙ r .read-both .kept .1 .1 .0) (b .post .kept .1 .1 .0 ∙ r .read-both .kept .1 .1 .1 .0) in (
-      c .code-noted .ensures ∙ ap coded (e .0),
+    (built-fronted (s .args .file .now)) (λ i. known .before .slice-known .given i .fits) (λ i. known .slice-known2 .given i .fits) (b .build .ensures)
+    (b .build .kept .1 .0 ∙ r .read-both .kept .1 .1 .0) (b .build .kept .1 .1 .0 ∙ r .read-both .kept .1 .1 .1 .0) in (
+      c .code-counts .ensures ∙ ap codedCounts (e .0),
       w .write-both .ensures .0 ∙ e .1,
       w .write-both .ensures .1 ∙ e .2,
     )
 
-pub post-bytes-spec : {M : Type 1} → statement M
-post-bytes-spec =
+pub build-bytes-spec : {M : Type 1} → statement M
+build-bytes-spec =
     tie.close
     (tie.spec
     read-both-requires
-    post-requires
+    build-requires
     write-both-requires
-    code-noted-requires
+    code-counts-requires
     same-length
     same-length-2
     same-length-3

@@ -1,17 +1,17 @@
--- `panel::withdraw_bytes` meets its contract: withdrawing on the fronts leaves what withdrawing on the areas leaves.
+-- `fronts::post_bytes` meets its contract: posting on the fronts leaves what posting on the areas leaves.
 -- Assumes nothing.
 use mathlib.Core.Path.{_∙_, ap}
 use Rattle.codes.specs.Encoded.{coded}
-use Rattle.panel.proofs.Ends.{withdrawn-fronted, ends}
+use Rattle.fronts.proofs.Ends.{posted-fronted, ends}
 use borrow.Author.Needs.{needs}
-use Rattle.panel.proofs.withdraw_bytes.Statement.{statement}
-use Rattle.panel.proofs.withdraw_bytes.Tie as tie
+use Rattle.fronts.proofs.post_bytes.Statement.{statement}
+use Rattle.fronts.proofs.post_bytes.Tie as tie
 
 read-both-requires : tie.Need-read-both-requires
 read-both-requires c κs = search needs
 
-withdraw-requires : tie.Need-withdraw-requires
-withdraw-requires c κs = search needs
+post-requires : tie.Need-post-requires
+post-requires c κs = search needs
 
 write-both-requires : tie.Need-write-both-requires
 write-both-requires c κs = search needs
@@ -46,19 +46,19 @@ returns c =
       first-read = r .read-both .ensures .0;
       second-read = r .read-both .ensures .1;
     })
-    (withdrawn-fronted (s .args .file .now) (s .args .number)) (λ i. known .before .slice-known .given i .fits) (λ i. known .slice-known2 .given i .fits) (b .withdraw .ensures)
-    (b .withdraw .kept .1 .0 ∙ r .read-both .kept .1 .1 .0) (b .withdraw .kept .1 .1 .0 ∙ r .read-both .kept .1 .1 .1 .0) in (
+    (posted-fronted (s .args .file .now) (s .args .number) (s .args .ride) (s .args .delay)) (λ i. known .before .slice-known .given i .fits) (λ i. known .slice-known2 .given i .fits) (b .post .ensures)
+    (b .post .kept .1 .0 ∙ r .read-both .kept .1 .1 .0) (b .post .kept .1 .1 .0 ∙ r .read-both .kept .1 .1 .1 .0) in (
       c .code-noted .ensures ∙ ap coded (e .0),
       w .write-both .ensures .0 ∙ e .1,
       w .write-both .ensures .1 ∙ e .2,
     )
 
-pub withdraw-bytes-spec : {M : Type 1} → statement M
-withdraw-bytes-spec =
+pub post-bytes-spec : {M : Type 1} → statement M
+post-bytes-spec =
     tie.close
     (tie.spec
     read-both-requires
-    withdraw-requires
+    post-requires
     write-both-requires
     code-noted-requires
     same-length

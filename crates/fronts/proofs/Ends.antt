@@ -14,7 +14,7 @@ use Rattle.timetable.proofs.Accepted.{accepted-iff}
 use Rattle.model.specs.Notices.{noticesLength}
 use Rattle.model.specs.Operations.{graphLength, Outcome, outcome, built, posted, withdrawn, Arrival, Enquiry, enquiry, enquired, margined}
 use Rattle.model.proofs.Fronts.{Covers, behind, behindEnquiry, front-built, front-posted, front-withdrawn, front-margined, front-enquired}
-use Rattle.panel.specs.Fronts.{mostGraph}
+use Rattle.fronts.specs.Fronts.{mostGraph}
 
 -- the front of a notice area and that of a graph area
 abbrev noticesFront : List ℕ → List ℕ

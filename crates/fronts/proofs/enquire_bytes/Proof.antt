@@ -1,11 +1,11 @@
--- `panel::enquire_bytes` meets its contract: enquiring on the fronts leaves what enquiring on the areas leaves.
+-- `fronts::enquire_bytes` meets its contract: enquiring on the fronts leaves what enquiring on the areas leaves.
 -- Assumes nothing.
 use mathlib.Core.Path.{_∙_, ap}
 use Rattle.codes.specs.Encoded.{codedArrival}
-use Rattle.panel.proofs.Ends.{enquiry-ends}
+use Rattle.fronts.proofs.Ends.{enquiry-ends}
 use borrow.Author.Needs.{needs}
-use Rattle.panel.proofs.enquire_bytes.Statement.{statement}
-use Rattle.panel.proofs.enquire_bytes.Tie as tie
+use Rattle.fronts.proofs.enquire_bytes.Statement.{statement}
+use Rattle.fronts.proofs.enquire_bytes.Tie as tie
 
 read-both-requires : tie.Need-read-both-requires
 read-both-requires c κs = search needs

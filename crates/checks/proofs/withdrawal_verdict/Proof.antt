@@ -1,9 +1,9 @@
--- `graph::withdrawal_verdict` meets its contract. Assumes nothing.
+-- `checks::withdrawal_verdict` meets its contract. Assumes nothing.
 use borrow.Author.Tests.{eq-eqb, ne-eqb}
-use Rattle.graph.specs.Verdicts.{withdrawalVerdict}
+use Rattle.checks.specs.Verdicts.{withdrawalVerdict}
 use borrow.Author.Needs.{needs}
-use Rattle.graph.proofs.withdrawal_verdict.Statement.{statement}
-use Rattle.graph.proofs.withdrawal_verdict.Tie as tie
+use Rattle.checks.proofs.withdrawal_verdict.Statement.{statement}
+use Rattle.checks.proofs.withdrawal_verdict.Tie as tie
 
 returns : tie.Need-returns
 unfolding withdrawalVerdict

@@ -1,11 +1,11 @@
--- `panel::margin_bytes` meets its contract: the margin by the fronts is that by the areas. Assumes nothing.
+-- `fronts::margin_bytes` meets its contract: the margin by the fronts is that by the areas. Assumes nothing.
 use mathlib.Core.Path.{_∙_, ap}
 use mir.Facts.{toZ-ofZ}
 use Rattle.codes.specs.Encoded.{codedMargin}
-use Rattle.panel.proofs.Ends.{margin-ends}
+use Rattle.fronts.proofs.Ends.{margin-ends}
 use borrow.Author.Needs.{needs}
-use Rattle.panel.proofs.margin_bytes.Statement.{statement}
-use Rattle.panel.proofs.margin_bytes.Tie as tie
+use Rattle.fronts.proofs.margin_bytes.Statement.{statement}
+use Rattle.fronts.proofs.margin_bytes.Tie as tie
 
 read-both-requires : tie.Need-read-both-requires
 read-both-requires c κs = search needs

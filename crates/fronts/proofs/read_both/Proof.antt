@@ -1,4 +1,4 @@
--- `panel::read_both` meets its contract: numbers written over an area that is no longer are their front. Assumes nothing.
+-- `fronts::read_both` meets its contract: numbers written over an area that is no longer are their front. Assumes nothing.
 use mathlib.Core.Path.{_∙_}
 use Prim.Native.Nat.{_≤_}
 use native.Mathlib.Omega.{arith}
@@ -6,8 +6,8 @@ use lib.ListN.{length}
 use Rattle.numbers.specs.Numbers.{numbersOf}
 use Rattle.numbers.proofs.Areas.{length-numbers, over-take}
 use borrow.Author.Needs.{needs}
-use Rattle.panel.proofs.read_both.Statement.{statement}
-use Rattle.panel.proofs.read_both.Tie as tie
+use Rattle.fronts.proofs.read_both.Statement.{statement}
+use Rattle.fronts.proofs.read_both.Tie as tie
 
 read-area-requires : tie.Need-read-area-requires
 read-area-requires c κs = search needs

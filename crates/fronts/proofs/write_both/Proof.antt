@@ -1,7 +1,7 @@
--- `panel::write_both` meets its contract: each area by what `write_area` ensures. Assumes nothing.
+-- `fronts::write_both` meets its contract: each area by what `write_area` ensures. Assumes nothing.
 use borrow.Author.Needs.{needs}
-use Rattle.panel.proofs.write_both.Statement.{statement}
-use Rattle.panel.proofs.write_both.Tie as tie
+use Rattle.fronts.proofs.write_both.Statement.{statement}
+use Rattle.fronts.proofs.write_both.Tie as tie
 
 write-area-requires : tie.Need-write-area-requires
 write-area-requires c κs = search needs
