@@ -10,7 +10,7 @@ use borrow.Author.Tests.{lt-ltb, le-ltb, le-leb}
 use lib.ListN.{length, length-append}
 use Rattle.commands.specs.Decimal.{digitZero, digitNine, maxDigits, maxNumber, isDigit, allDigits, valueAfter, valueOf, decimal, lastDigits, decimalOf}
 use Rattle.commands.specs.declared.Number.the-variants.{Is}
-use Rattle.commands.proofs.Tests.{by-lt, and-left, and-right, and-both}
+use Rattle.model.proofs.Tests.{by-lt, and-left, and-right, and-both}
 
 -- a bound that is large enough makes no difference
 bound-same : (j k n : ℕ) → n < j → n < k → lastDigits j n ≡ lastDigits k n

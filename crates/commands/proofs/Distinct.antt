@@ -12,7 +12,7 @@ use lib.ListN.{length, getD, drop}
 use Rattle.commands.specs.Decimal.{digitZero, digitNine, isDigit, allDigits, valueAfter, valueOf, decimalOf}
 use Rattle.commands.specs.Lines.{connectionsLabel, byLabel, placeLabel, lineEnd, labelled, journeyText, countsLine, arrivesLine, postedLine, withdrawnLine, refusalLine, marginLine, Line, counts, arrives, posted, withdrawn, refusal, margin, textOf}
 use Rattle.commands.proofs.Digits.{digits-only, digits-some, value-is}
-use Rattle.commands.proofs.Tests.{and-left, and-right}
+use Rattle.model.proofs.Tests.{and-left, and-right}
 
 -- the number that ends here, where there is one
 abbrev ending : Bool → ℕ → List ℕ → List ℕ

@@ -15,7 +15,8 @@ use Rattle.commands.specs.Commands.{maxLine, newline, space, onFirst, wo
 use Rattle.commands.specs.declared.Command.the-variants.{Unreadable}
 use Rattle.commands.specs.declared.Numbers.{Numbers}
 use Rattle.commands.specs.declared.Numbers.the-variants.{One, Two, Three, Other}
-use Rattle.commands.proofs.Tests.{by-eq, cond-same}
+use Rattle.model.proofs.Tests.{by-eq}
+use Rattle.commands.proofs.Tests.{cond-same}
 
 -- the words of a text that starts with a space
 words-space : (b : ℕ) (bs : List ℕ) → b ≡ space → words (b ∷ bs) ≡ [] ∷ words bs
