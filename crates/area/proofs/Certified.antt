@@ -1,14 +1,14 @@
 -- An area whose times stand and whose lists are right is the graph area, and conversely. Assumes nothing.
-use mathlib.Core.Path.{_≡_, refl, sym, _∙_, ap}
+use mathlib.Core.Path.{_≡_, sym, _∙_, ap}
 use mathlib.Core.Logic.{⊎-elim}
 use mathlib.Core.Bool.{Bool, true, false}
 use mathlib.Core.List.{List, _++_, append-assoc}
-use Prim.Native.Nat.{ℕ, suc, _+_, _*_, _-_, _<_, _≤_}
+use Prim.Native.Nat.{ℕ, _+_, _*_, _-_, _<_, _≤_}
 use native.Mathlib.Omega.{arith}
 use lib.ListN.{length, getD, take}
 use lib.Seq.{ext-getD, getD-take, take-take, take-at, length-take-le}
 use Rattle.timetable.specs.File.{stops, connections}
-use Rattle.model.specs.Least.{none, tab}
+use Rattle.model.specs.Least.{tab}
 use Rattle.model.specs.Network.{Network, Sound}
 use Rattle.model.specs.Notices.{rowsOf}
 use Rattle.model.specs.Times.{networkOf}
@@ -20,11 +20,12 @@ use Rattle.timetable.proofs.Tests.{not-both}
 use Rattle.model.proofs.Tests.{by-lt, by-bool, same-test}
 use Rattle.model.proofs.Lists.{same-refl, same-eq}
 use Rattle.model.proofs.GraphArea.{length-times, in-times, length-graph, waiting-entry, transfer-entry, first-entry}
-use Rattle.model.proofs.Boards.{Agree, waiting-same, transfer-same, first-same}
+use Rattle.model.specs.Shown.{shown}
+use Rattle.model.proofs.Shown.{times-shown, graph-shown, sound-shown}
 use Rattle.timetable.specs.Accepted.{Opened}
-use Rattle.times.specs.Times.{Standing}
-use Rattle.times.proofs.Timed.{departure-timed, arrival-timed}
-use Rattle.certificate.specs.Links.{shown, ListsRight, Tells}
+use Rattle.times.specs.Times.{Standing, Timed}
+use Rattle.times.proofs.Timed.{departure-timed, arrival-timed, times-timed}
+use Rattle.certificate.specs.Links.{ListsRight, Tells}
 use Rattle.certificate.specs.Linking.{Linking}
 
 module _ (net : Network) (g : List ℕ) where
@@ -104,74 +105,28 @@ module _ (f notices g : List ℕ) (s n : ℕ) (o : Opened f s n) (k : Standing f
   unfolding networkOf
   arrives c h = read (2 * c + 1) (omega (arith, o .connections)) ∙ arrival-timed net n (o .connections) c (omega (arith, o .connections))
 
-  -- shows the network
-  agree : Agree (shown f g) net
+  -- none is above the last
+  pub timed : 2 * n ≤ length g → Timed g n
   unfolding networkOf
-  agree =
-      record {
-        stops = refl;
-        connections = refl;
-        from = λ c h. refl;
-        to = λ c h. refl;
-        departure = departs;
-        ready = λ c h. rw (arrives c h);
-      }
+  timed room = record { room = room; most = λ i h. rw (read i h) (times-timed net n (o .connections) sound .most i h) }
+
+  -- the graph of the times shown is that of the network
+  pub graph-by-times : graphOf (shown f g) ≡ graphFor f (rowsOf notices)
+  graph-by-times = graph-shown f notices g sound departs arrives
 
   -- so the lists can be checked
   pub linking : graphLength f ≤ length g → Linking f s n g
-  unfolding networkOf
-  linking room =
-      record {
-        opened = o;
-        sound = record {
-          few-stops = sound .few-stops;
-          few = sound .few;
-          from-stop = sound .from-stop;
-          to-stop = sound .to-stop;
-          transfers = sound .transfers;
-          forward = λ c h. omega (arith, departs c h, arrives c h, sound .forward c h);
-          early = λ c h. omega (arith, arrives c h, sound .early c h);
-          starts = sound .starts;
-          joins = sound .joins;
-          keeps = λ c h q. omega (arith, arrives c (omega arith), departs (suc c) h, sound .keeps c h q);
-        };
-        room = room;
-      }
-
-  -- the lists of the times shown are those of the network
-  few : connections f ≤ none
-  few = omega (arith, o .timetable .few)
-
-  to-network : ListsRight (shown f g) g → ListsRight net g
-  unfolding networkOf
-  to-network r =
-      record {
-        links = record {
-          firsts = λ t h. r .links .firsts t h ∙ first-same (shown f g) net few agree t;
-          nexts = λ c h. r .links .nexts c h ∙ waiting-same (shown f g) net few agree c h;
-        };
-        changes = λ c h. r .changes c h ∙ transfer-same (shown f g) net few agree c h;
-      }
-
-  from-network : ListsRight net g → ListsRight (shown f g) g
-  unfolding networkOf
-  from-network r =
-      record {
-        links = record {
-          firsts = λ t h. r .links .firsts t h ∙ sym (first-same (shown f g) net few agree t);
-          nexts = λ c h. r .links .nexts c h ∙ sym (waiting-same (shown f g) net few agree c h);
-        };
-        changes = λ c h. r .changes c h ∙ sym (transfer-same (shown f g) net few agree c h);
-      }
+  linking room = record { opened = o; sound = sound-shown f notices g sound departs arrives; room = room }
 
   -- and what tells of them tells of the area
   pub judged : (r : Bool) → graphLength f ≤ length g → Tells r (ListsRight (shown f g) g) → r ≡ same (take (graphLength f) g) (graphFor f (rowsOf notices))
-  unfolding networkOf
   judged r room tells =
-      let front′ : take (2 * connections f) g ≡ times net (connections f) = rw (o .connections) at front in
-      same-test r (same (take (graphLength f) g) (graphFor f (rowsOf notices)))
-      (λ h. rw (graph-by net g front′ (to-network (tells .0 h)) room) (same-refl (graphOf net)))
-      (λ h. tells .1 (from-network (lists-by net g (same-eq _ _ h))))
+      let front′ : take (2 * connections f) g ≡ times (shown f g) (connections f) =
+      rw (times-shown f notices g sound departs arrives (connections f) (omega arith)) (rw (o .connections) at front) in
+      rw (← graph-by-times)
+      (same-test r (same (take (graphLength f) g) (graphOf (shown f g)))
+      (λ h. rw (graph-by (shown f g) g front′ (tells .0 h) room) (same-refl (graphOf (shown f g))))
+      (λ h. tells .1 (lists-by (shown f g) g (same-eq _ _ h))))
 
 -- where the times do not stand, the area is another
 pub no-times : (f notices g : List ℕ) (n : ℕ) → n ≡ connections f → same (take (2 * n) g) (times (networkBy f notices) n) ≡ false

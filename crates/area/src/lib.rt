@@ -4,11 +4,12 @@ ghost use mathlib.Core.List.{_++_};
 ghost use Prim.Native.Nat.{_+_, _*_, _≤_};
 ghost use lib.ListN.{length, take, drop};
 ghost use Rattle.model.specs.Notices.{rowsOf};
-ghost use Rattle.model.specs.Graph.{times};
+ghost use Rattle.model.specs.Graph.{times, graphOf};
 ghost use Rattle.model.specs.Operations.{same, graphLength, graphFor};
 ghost use Rattle.model.specs.Ready.{networkBy};
+ghost use Rattle.model.specs.Shown.{shown};
 ghost use Rattle.timetable.specs.Accepted.{Opened};
-ghost use Rattle.times.specs.Times.{Standing};
+ghost use Rattle.times.specs.Times.{Standing, Timed};
 ghost use Rattle.departures.specs.Listed.{Lists};
 ghost use Rattle.area.specs.Area.{spliced, ListsRoom};
 
@@ -90,24 +91,23 @@ fn times_right(file: &[u8], stops: usize, n: usize, notices: &[u16], area: &[u16
     equal(area, &want[0..end])
 }
 
-// The departure lists by the expected times.
+// The departure lists by the times in the area.
 fn list_departures(
     file: &[u8],
     stops: usize,
     n: usize,
-    notices: &[u16],
-    expected: &[u16],
+    graph: &[u16],
     firsts: &mut [u16],
     waits: &mut [u16],
     changes: &mut [u16],
 )
-    requires { ⌜ Opened (now file) stops n × Standing (now file) (now notices) × (now expected ≡ times (networkBy (now file) (now notices)) n) × ListsRoom stops n (now firsts) (now waits) (now changes) ⌝ }
-    ensures { λ _. ⌜ Lists (networkBy (now (file .entry)) (now (notices .entry))) (now (firsts .exit)) (now (waits .exit)) (now (changes .exit)) ⌝ }
+    requires { ⌜ Opened (now file) stops n × Timed (now graph) n × ListsRoom stops n (now firsts) (now waits) (now changes) ⌝ }
+    ensures { λ _. ⌜ Lists (shown (now (file .entry)) (now (graph .entry))) (now (firsts .exit)) (now (waits .exit)) (now (changes .exit)) ⌝ }
 {
     let mut events = [0u16; MAX_EVENTS];
     let mut from = [0u16; MAX_CONNECTIONS];
     let mut to = [0u16; MAX_CONNECTIONS];
-    times::fill_events(file, stops, n, expected, &mut events, &mut from, &mut to);
+    times::fill_events(file, stops, n, graph, &mut events, &mut from, &mut to);
     departures::fill_lists(&events, &from, &to, n, firsts, waits, changes);
 }
 
@@ -116,33 +116,22 @@ fn put_departures(
     file: &[u8],
     stops: usize,
     n: usize,
-    notices: &[u16],
     firsts: &mut [u16],
     waits: &mut [u16],
     changes: &mut [u16],
     graph: &mut [u16],
 )
-    requires { ⌜ Opened (now file) stops n × Standing (now file) (now notices) × (graphLength (now file) ≤ length (now graph)) × (now graph ≡ times (networkBy (now file) (now notices)) n ++ drop (2 * n) (now graph)) × ListsRoom stops n (now firsts) (now waits) (now changes) ⌝ }
-    ensures { λ _. ⌜ now (graph .exit) ≡ graphFor (now (file .entry)) (rowsOf (now (notices .entry))) ++ drop (graphLength (now (file .entry))) (now (graph .entry)) ⌝ }
+    requires { ⌜ Opened (now file) stops n × Timed (now graph) n × (graphLength (now file) ≤ length (now graph)) × ListsRoom stops n (now firsts) (now waits) (now changes) ⌝ }
+    ensures { λ _. ⌜ now (graph .exit) ≡ graphOf (shown (now (file .entry)) (now (graph .entry))) ++ drop (graphLength (now (file .entry))) (now (graph .entry)) ⌝ }
 {
-    let end = 2 * n;
-    list_departures(
-        file,
-        stops,
-        n,
-        notices,
-        &graph[0..end],
-        firsts,
-        waits,
-        changes,
-    );
+    list_departures(file, stops, n, graph, firsts, waits, changes);
     put_parts(n, firsts, waits, changes, graph);
 }
 
 // The rest of the area whose times stand.
-fn put_lists(file: &[u8], stops: usize, n: usize, notices: &[u16], graph: &mut [u16])
-    requires { ⌜ Opened (now file) stops n × Standing (now file) (now notices) × (graphLength (now file) ≤ length (now graph)) × (now graph ≡ times (networkBy (now file) (now notices)) n ++ drop (2 * n) (now graph)) ⌝ }
-    ensures { λ _. ⌜ now (graph .exit) ≡ graphFor (now (file .entry)) (rowsOf (now (notices .entry))) ++ drop (graphLength (now (file .entry))) (now (graph .entry)) ⌝ }
+fn put_lists(file: &[u8], stops: usize, n: usize, graph: &mut [u16])
+    requires { ⌜ Opened (now file) stops n × Timed (now graph) n × (graphLength (now file) ≤ length (now graph)) ⌝ }
+    ensures { λ _. ⌜ now (graph .exit) ≡ graphOf (shown (now (file .entry)) (now (graph .entry))) ++ drop (graphLength (now (file .entry))) (now (graph .entry)) ⌝ }
 {
     let mut firsts = [NONE; MAX_STOPS];
     let mut waits = [NONE; MAX_CONNECTIONS];
@@ -151,7 +140,6 @@ fn put_lists(file: &[u8], stops: usize, n: usize, notices: &[u16], graph: &mut [
         file,
         stops,
         n,
-        notices,
         &mut firsts[0..stops],
         &mut waits[0..n],
         &mut changes[0..n],
@@ -165,7 +153,7 @@ pub fn fill_graph(file: &[u8], stops: usize, n: usize, notices: &[u16], graph: &
     ensures { λ _. ⌜ now (graph .exit) ≡ graphFor (now (file .entry)) (rowsOf (now (notices .entry))) ++ drop (graphLength (now (file .entry))) (now (graph .entry)) ⌝ }
 {
     put_times(file, stops, n, notices, graph);
-    put_lists(file, stops, n, notices, graph);
+    put_lists(file, stops, n, graph);
 }
 
 // Whether the area is the one of the timetable and the notices that stand: its times are the expected ones, and its lists are

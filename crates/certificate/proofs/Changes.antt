@@ -8,8 +8,7 @@ use Rattle.model.specs.Least.{none, key}
 use Rattle.model.specs.Network.{Network, Sound, lastExpected}
 use Rattle.model.specs.Graph.{ready, waiting, transfer, firstDeparture}
 use Rattle.model.proofs.Tests.{by-lt}
-use Rattle.model.proofs.Follows.{Change}
-use Rattle.model.proofs.Boards.{Listed, nobody, foremost, Behind, waiting-listed, transfer-listed, first-listed, entry-first}
+use Rattle.model.proofs.Boards.{ChangeOn, Listed, nobody, foremost, Behind, waiting-listed, transfer-listed, first-listed, entry-first}
 use Rattle.certificate.specs.Links.{nextOf, changeOf, LinksRight, Mark, missed, first, next, Marks, End, followed, last, Ends, AllMarked, ChangeLink, nobody, leads}
 use Rattle.certificate.proofs.Links.{first-led, next-led, right-first, right-next}
 
@@ -57,7 +56,7 @@ module _ (net : Network) (sound : Sound net) (g : List ℕ) (right : LinksRight 
   module _ (marks ends : List ℕ) (marked : Marks net g (net .stops) (net .connections) marks) (all : AllMarked net marks)
       (ended : Ends net g (net .connections) ends) (c : ℕ) (h : c < net .connections) where
     -- an entry that fits is right
-    change-by : ChangeLink net g marks ends c → Listed net (Change net c) (transfer net c) → changeOf net g c ≡ transfer net c
+    change-by : ChangeLink net g marks ends c → Listed net (ChangeOn net c (net .to c)) (transfer net c) → changeOf net g c ≡ transfer net c
     change-by (nobody q l) (nobody r f) = q ∙ sym r
     change-by (nobody q l) (foremost i p f) = absurd (omega (arith, p .1, end-after (net .to c) _ _ i (p .0) (ended .each (net .to c) (sound .to-stop c h))))
     change-by (leads i b a l) (nobody r f) = absurd (f _ i (b, a))
@@ -69,30 +68,30 @@ module _ (net : Network) (sound : Sound net) (g : List ℕ) (right : LinksRight 
         (by-lt (k (transfer net c)) (k (changeOf net g c)))
 
     pub change-right : ChangeLink net g marks ends c → changeOf net g c ≡ transfer net c
-    change-right l = change-by l (transfer-listed net sound c)
+    change-right l = change-by l (transfer-listed net sound c (net .to c))
 
     -- the end of the stop where nobody can change, and the mark of the first that one can change to
-    end-low : ((d : ℕ) → d < n → Change net c d → ⊥) → (x : ℕ) → End net g n (net .to c) x → x ≤ ready net c
+    end-low : ((d : ℕ) → d < n → ChangeOn net c (net .to c) d → ⊥) → (x : ℕ) → End net g n (net .to c) x → x ≤ ready net c (net .to c)
     end-low f x (followed q w) = omega arith
     end-low f x (last d i b q z) =
-        ⊎-elim (λ (a : net .departure d < ready net c). omega arith) (λ (a : ready net c ≤ net .departure d). absurd (f d i (b, a))) (by-lt (net .departure d) (ready net c))
+        ⊎-elim (λ (a : net .departure d < ready net c (net .to c)). omega arith) (λ (a : ready net c (net .to c) ≤ net .departure d). absurd (f d i (b, a))) (by-lt (net .departure d) (ready net c (net .to c)))
 
-    mark-low : (d x : ℕ) → d < n → Change net c d → ((e : ℕ) → e < n → Change net c e → k d ≤ k e) → (x ≡ none → ⊥) → Mark net g (net .stops) n d x
-        → x ≤ ready net c
+    mark-low : (d x : ℕ) → d < n → ChangeOn net c (net .to c) d → ((e : ℕ) → e < n → ChangeOn net c (net .to c) e → k d ≤ k e) → (x ≡ none → ⊥) → Mark net g (net .stops) n d x
+        → x ≤ ready net c (net .to c)
     mark-low d x i p f hit (missed q v w) = absurd (hit q)
     mark-low d x i p f hit (first s j q z) = omega arith
     mark-low d x i p f hit (next e j q z) =
         let o = next-led net sound g (right-next net sound g right e j) q i in
         ⊎-elim
-        (λ (a : net .departure e < ready net c). omega arith)
-        (λ (a : ready net c ≤ net .departure e). absurd (omega (arith, o .1, f e j (sym (o .0) ∙ p .0, a))))
-        (by-lt (net .departure e) (ready net c))
+        (λ (a : net .departure e < ready net c (net .to c)). omega arith)
+        (λ (a : ready net c (net .to c) ≤ net .departure e). absurd (omega (arith, o .1, f e j (sym (o .0) ∙ p .0, a))))
+        (by-lt (net .departure e) (ready net c (net .to c)))
 
     -- a right entry fits
-    fits : Listed net (Change net c) (transfer net c) → changeOf net g c ≡ transfer net c → ChangeLink net g marks ends c
+    fits : Listed net (ChangeOn net c (net .to c)) (transfer net c) → changeOf net g c ≡ transfer net c → ChangeLink net g marks ends c
     fits (nobody r f) q = nobody (q ∙ r) (end-low f _ (ended .each (net .to c) (sound .to-stop c h)))
     fits (foremost i p f) q =
         leads (rw q i) (rw q (p .0)) (rw q (p .1)) (rw q (mark-low (transfer net c) _ i p f (all _ i) (marked .each _ i)))
 
     pub right-change : changeOf net g c ≡ transfer net c → ChangeLink net g marks ends c
-    right-change q = fits (transfer-listed net sound c) q
+    right-change q = fits (transfer-listed net sound c (net .to c)) q

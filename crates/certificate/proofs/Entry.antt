@@ -11,7 +11,8 @@ use Rattle.timetable.specs.Room.{HasStop}
 use Rattle.timetable.proofs.Accepted.{room-for-stop}
 use Rattle.model.specs.Least.{none}
 use Rattle.model.specs.Graph.{ready, departureIn, arrivalIn, transferIn}
-use Rattle.certificate.specs.Links.{shown, changeOf, Ends, ChangeLink, Tells}
+use Rattle.model.specs.Shown.{shown}
+use Rattle.certificate.specs.Links.{changeOf, Ends, ChangeLink, Tells}
 use Rattle.certificate.specs.Links.ChangeLink.{nobody, leads}
 use Rattle.certificate.specs.Linking.{Linking}
 use Rattle.certificate.proofs.Telling.{tells-no, tells-leb}
@@ -41,7 +42,7 @@ pub record Arrives (f : List ℕ) (s n : ℕ) (g : List ℕ) (c stop x y : ℕ) 
   pub transfer-is : y ≡ transferTime f stop
 
 module _ {f : List ℕ} {s n : ℕ} {g : List ℕ} {c stop x y : ℕ} (r : Arrives f s n g c stop x y) where
-  ready-is : x + y ≡ ready (shown f g) c
+  ready-is : x + y ≡ ready (shown f g) c (to f c)
   ready-is = rw (r .arrival-is, r .transfer-is, r .goes .stop-is)
 
   -- the passenger is ready at a time of 16 bits
@@ -49,7 +50,7 @@ module _ {f : List ℕ} {s n : ℕ} {g : List ℕ} {c stop x y : ℕ} (r : Arriv
   ready-fits =
       let h = connection (r .goes) in
       let sound = r .goes .linking .sound in
-      omega (arith, ready-is, sound .early c h, sound .transfers (to f c) (sound .to-stop c h))
+      omega (arith, ready-is, sound .early c h, sound .transfers c (to f c) h)
 
   -- the transfer entry of c
   module _ {e : ℕ} (entry : e ≡ transferIn g n c) where

@@ -16,7 +16,8 @@ use Rattle.model.specs.Least.{none, key}
 use Rattle.model.specs.Network.{Network, Sound}
 use Rattle.model.specs.Graph.{board, departureIn, waitingIn, firstIn}
 use Rattle.model.proofs.Tests.{by-eq, same-test, one-more}
-use Rattle.certificate.specs.Links.{shown, firstOf, nextOf, FirstLink, NextLink, nobody, leads, Mark, missed, first, next, Marks, End, followed, last, Ends}
+use Rattle.model.specs.Shown.{shown}
+use Rattle.certificate.specs.Links.{firstOf, nextOf, FirstLink, NextLink, nobody, leads, Mark, missed, first, next, Marks, End, followed, last, Ends}
 use Rattle.certificate.specs.Linking.{Linking}
 use Rattle.certificate.proofs.Telling.{Told, told, denied}
 

@@ -10,7 +10,8 @@ use lib.Seq.{length-take-le, getD-take}
 use Rattle.timetable.specs.Check.{maxStops, maxConnections}
 use Rattle.timetable.specs.File.{stops, connections}
 use Rattle.model.specs.Least.{none}
-use Rattle.certificate.specs.Links.{shown, FirstLink, NextLink, ChangeLink, Marks, Ends, AllMarked, LinksRight, ListsRight}
+use Rattle.model.specs.Shown.{shown}
+use Rattle.certificate.specs.Links.{FirstLink, NextLink, ChangeLink, Marks, Ends, AllMarked, LinksRight, ListsRight}
 use Rattle.certificate.specs.Links.Mark.{missed}
 use Rattle.certificate.specs.Links.End.{followed}
 use Rattle.certificate.specs.Linking.{Linking}

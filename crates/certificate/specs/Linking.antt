@@ -5,7 +5,7 @@ use lib.ListN.{length}
 use Rattle.model.specs.Network.{Sound}
 use Rattle.model.specs.Operations.{graphLength}
 use Rattle.timetable.specs.Accepted.{Opened}
-use Rattle.certificate.specs.Links.{shown}
+use Rattle.model.specs.Shown.{shown}
 
 -- an accepted timetable of s stops and n connections, and a graph area that is long enough and shows sound times
 pub record Linking (f : List ℕ) (s n : ℕ) (g : List ℕ) : Type 0 where

@@ -6,24 +6,9 @@ use mathlib.Core.Bool.{Bool, true}
 use mathlib.Core.List.{List}
 use Prim.Native.Nat.{ℕ, suc, _<_, _≤_}
 use lib.ListN.{length, getD}
-use Rattle.timetable.specs.File.{stops, connections, from, to, staysAboard, transferTime}
 use Rattle.model.specs.Least.{none, key}
 use Rattle.model.specs.Network.{Network}
-use Rattle.model.specs.Graph.{board, ready, waiting, transfer, firstDeparture, departureIn, arrivalIn, waitingIn, transferIn, firstIn}
-
--- the network of a timetable with the times that a graph area shows
-abbrev pub shown : List ℕ → List ℕ → Network
-shown f g =
-    record {
-      stops = stops f;
-      connections = connections f;
-      from = from f;
-      to = to f;
-      departure = departureIn g;
-      arrival = arrivalIn g;
-      staysAboard = staysAboard f;
-      transferTime = transferTime f;
-    }
+use Rattle.model.specs.Graph.{board, ready, waiting, transfer, firstDeparture, waitingIn, transferIn, firstIn}
 
 -- the entries of a graph area of the network
 abbrev pub firstOf : Network → List ℕ → ℕ → ℕ
@@ -89,8 +74,8 @@ AllMarked net marks = (d : ℕ) → d < net .connections → getD marks d 0 ≡ 
 -- the transfer entry of c is none and the stop's last departure leaves before the passenger is ready; or it leaves from that
 -- stop in time, and the departure before it does not
 pub data ChangeLink (net : Network) (g marks ends : List ℕ) (c : ℕ) : Type 0 where
-  nobody : changeOf net g c ≡ none → getD ends (net .to c) 0 ≤ ready net c → ChangeLink net g marks ends c
-  leads : changeOf net g c < net .connections → board net (changeOf net g c) ≡ net .to c → ready net c ≤ net .departure (changeOf net g c) → getD marks (changeOf net g c) 0 ≤ ready net c → ChangeLink net g marks ends c
+  nobody : changeOf net g c ≡ none → getD ends (net .to c) 0 ≤ ready net c (net .to c) → ChangeLink net g marks ends c
+  leads : changeOf net g c < net .connections → board net (changeOf net g c) ≡ net .to c → ready net c (net .to c) ≤ net .departure (changeOf net g c) → getD marks (changeOf net g c) 0 ≤ ready net c (net .to c) → ChangeLink net g marks ends c
 
 -- r tells whether P holds
 abbrev pub Tells : Bool → Type 0 → Type 0

@@ -8,7 +8,8 @@ ghost use lib.Dec.{ltb};
 ghost use lib.ListN.{length, getD};
 ghost use Rattle.model.specs.Least.{none, key};
 ghost use Rattle.model.specs.Graph.{departureIn};
-ghost use Rattle.certificate.specs.Links.{shown, FirstLink, NextLink, ChangeLink, Marks, Ends, ListsRight, Tells};
+ghost use Rattle.model.specs.Shown.{shown};
+ghost use Rattle.certificate.specs.Links.{FirstLink, NextLink, ChangeLink, Marks, Ends, ListsRight, Tells};
 ghost use Rattle.certificate.specs.Linking.{Linking};
 
 // How many stops and connections a timetable has at most: `maxStops` and `maxConnections`.

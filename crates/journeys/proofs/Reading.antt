@@ -12,30 +12,29 @@ use Rattle.timetable.specs.File.{connections}
 use Rattle.timetable.specs.Check.{maxConnections}
 use Rattle.model.specs.Least.{none}
 use Rattle.model.specs.Network.{Network, Sound}
-use Rattle.model.specs.Times.{networkOf}
 use Rattle.model.specs.Graph.{arrivalIn}
 use Rattle.model.specs.Journeys.{arrives}
 use Rattle.model.specs.Predecessors.{predecessors, follow, lastTo, nowhere, journeyIn}
 use Rattle.model.specs.Operations.{enquiry}
-use Rattle.model.specs.Ready.{networkBy}
+use Rattle.model.specs.Shown.{shown}
 use Rattle.model.proofs.Rounds.{length-predecessors}
 use Rattle.model.proofs.Journeys.{follow-begins, journey-here, journey-there, last-reached}
-use Rattle.model.proofs.Ready.{sound, graph-room, arrival-read}
+use Rattle.model.proofs.Shown.{readable-room}
 use Rattle.journeys.specs.Trail.{Trail}
 use Rattle.journeys.specs.Search.{Searched}
 use Rattle.journeys.specs.Reading.{readOut, Reading}
 use Rattle.journeys.proofs.Trail.{rooted, length-follow}
 
-module _ (f notices graph work journey : List ℕ) (a b t : ℕ) (p : Reading f notices graph work journey a t) where
+module _ (f graph work journey : List ℕ) (a b t : ℕ) (p : Reading f graph work journey a t) where
   abbrev net : Network
-  net = networkBy f notices
+  net = shown f graph
 
   sound-net : Sound net
-  sound-net = sound f notices graph (p .ready)
+  sound-net = p .readable .sound
 
   -- at one stop nothing is written
-  pub read-here : a ≡ b → enquiry (accepted (record { time = t; connections = 0 })) work journey ≡ readOut (networkBy f notices) work journey a b t
-  unfolding networkOf nowhere
+  pub read-here : a ≡ b → enquiry (accepted (record { time = t; connections = 0 })) work journey ≡ readOut (shown f graph) work journey a b t
+  unfolding nowhere
   read-here q = rw (journey-here net (take (connections f) work) a b q, eq-eqb a b q)
 
   -- w is the part of the work area that holds the predecessors
@@ -47,7 +46,6 @@ module _ (f notices graph work journey : List ℕ) (a b t : ℕ) (p : Reading f 
     part = rw (sub-zero, x)
 
     long : length w ≡ connections f
-    unfolding networkOf
     long = ap length (part ∙ p .filled) ∙ length-predecessors net a t
 
     -- it lies within the area
@@ -55,17 +53,16 @@ module _ (f notices graph work journey : List ℕ) (a b t : ℕ) (p : Reading f 
     part-room = omega (arith, x, long, length-take (n - 0) work)
 
     -- what the search asks
-    pub searched : Searched f notices graph (take (n - 0) work)
-    searched = record { ready = p .ready; long = long }
+    pub searched : Searched f graph (take (n - 0) work)
+    searched = record { readable = p .readable; long = long }
 
-    module _ (u : a ≡ b → ⊥) (last : ℕ) (e : last ≡ lastTo (networkBy f notices) (take (n - 0) work) b) where
+    module _ (u : a ≡ b → ⊥) (last : ℕ) (e : last ≡ lastTo (shown f graph) (take (n - 0) work) b) where
       led : nowhere net (take (connections f) work) a b ≡ eqb last none
       unfolding nowhere
       led = rw (ne-eqb a b u, ← part, e)
 
       -- without a last connection there is no journey
-      pub read-none : last ≡ none → enquiry (refused 30 0) work journey ≡ readOut (networkBy f notices) work journey a b t
-      unfolding networkOf
+      pub read-none : last ≡ none → enquiry (refused 30 0) work journey ≡ readOut (shown f graph) work journey a b t
       read-none q = rw (led, eq-eqb last none q)
 
       module _ (h : last < none) where
@@ -73,7 +70,6 @@ module _ (f notices graph work journey : List ℕ) (a b t : ℕ) (p : Reading f 
         last-is = e ∙ ap (λ (l : List ℕ). lastTo net l b) (part ∙ p .filled)
 
         at-last : (last < connections f) × (getD w last none < none)
-        unfolding networkOf
         at-last = rw (part ∙ p .filled, last-is) (last-reached net a t sound-net b (omega (arith, last-is)))
 
         -- what writing the journey asks
@@ -89,22 +85,21 @@ module _ (f notices graph work journey : List ℕ) (a b t : ℕ) (p : Reading f 
 
         -- what reading its arrival asks
         pub last-room : 2 * last + 1 < length graph
-        last-room = omega (arith, at-last .0, graph-room f notices graph (p .ready))
+        last-room = omega (arith, at-last .0, readable-room f graph (p .readable))
 
         module _ (r : ℕ) (k : r ≡ length (follow (take (n - 0) work) (length (take (n - 0) work)) last)) where
           -- there are no more connections than the timetable has
           pub count-fits : r ≤ maxConnections
-          count-fits = omega (arith, k, long, length-follow w (length w) last, p .ready .timetable .few)
+          count-fits = omega (arith, k, long, length-follow w (length w) last, p .readable .timetable .few)
 
           -- the answer is the journey that was written
           pub read-found : (time : ℕ) (j : List ℕ) → time ≡ arrivalIn graph last
               → j ≡ reverse (follow (take (n - 0) work) (length (take (n - 0) work)) last) ++ drop r journey
-              → enquiry (accepted (record { time = time; connections = r })) work j ≡ readOut (networkBy f notices) work journey a b t
-          unfolding networkOf
+              → enquiry (accepted (record { time = time; connections = r })) work j ≡ readOut (shown f graph) work journey a b t
           read-found time j y z =
               let js : journeyIn net (take (connections f) work) a b ≡ follow w (length w) last =
               rw (← part) (journey-there net w a b u ∙ rw (e, long)) in
               let m = follow-begins w (length w) last (omega (arith, to-write .0 .numbered)) in
               let v : time ≡ arrives net t (follow w (length w) last) =
-              rw (m .1) (y ∙ arrival-read f notices graph (p .ready) last (at-last .0)) in
+              rw (m .1) y in
               rw (led, ne-eqb last none (λ q. omega arith), js, z, k, v)

@@ -12,12 +12,11 @@ use Rattle.timetable.specs.File.{connections, to}
 use Rattle.timetable.specs.Room.{HasConnection}
 use Rattle.timetable.proofs.Accepted.{room-for}
 use Rattle.model.specs.Least.{none}
-use Rattle.model.specs.Times.{networkOf}
 use Rattle.model.specs.Graph.{arrivalIn}
 use Rattle.model.specs.Predecessors.{reachedIn, arriving, lastTo}
-use Rattle.model.specs.Ready.{networkBy}
-use Rattle.model.proofs.Least.{least-range, scan-none, scan-fails, scan-first, scan-wins, scan-loses, scan-done}
-use Rattle.model.proofs.Ready.{graph-room, arrival-read}
+use Rattle.model.specs.Shown.{shown}
+use Rattle.model.proofs.Least.{least-range, scan-fails, scan-first, scan-wins, scan-loses, scan-done}
+use Rattle.model.proofs.Shown.{readable-room}
 use Rattle.journeys.specs.Search.{Searched, Better, Turn}
 use Rattle.model.proofs.Lists.{inside}
 
@@ -29,59 +28,49 @@ module _ (w : List ℕ) (c : ℕ) (h : c < length w) where
   pub test-reached : getD w c 0 < none → reachedIn w c ≡ true
   test-reached r = lt-ltb (getD w c none) none (omega (arith, inside w c none 0 h))
 
--- before the first turn
-pub search-none : (f notices w : List ℕ) (b : ℕ) → Better f notices w b 0 none
-search-none f notices w b = scan-none _ _
-
 -- after the last turn
-pub search-done : (f notices graph w : List ℕ) (b r : ℕ) → Searched f notices graph w → Better f notices w b (connections f) r → r ≡ lastTo (networkBy f notices) w b
-unfolding networkOf lastTo
-search-done f notices graph w b r s k = scan-done _ _ (connections f) r (omega (arith, s .ready .timetable .few)) k
+pub search-done : (f graph w : List ℕ) (b r : ℕ) → Searched f graph w → Better f graph w b (connections f) r → r ≡ lastTo (shown f graph) w b
+unfolding lastTo
+search-done f graph w b r s k = scan-done _ _ (connections f) r (omega (arith, s .readable .timetable .few)) k
 
-module _ (f notices graph w : List ℕ) (s best c b : ℕ) (p : Turn f notices graph w s best c b) where
+module _ (f graph w : List ℕ) (s best c b : ℕ) (p : Turn f graph w s best c b) where
   -- the predecessor of c and the file's row of c are there
   pub room-here : (c < length w) × HasConnection f s c
   room-here =
-      (omega (arith, p .below, p .searched .long), rw (p .counted) (room-for f (p .searched .ready .timetable) c (p .below)))
+      (omega (arith, p .below, p .searched .long), rw (p .counted) (room-for f (p .searched .readable .timetable) c (p .below)))
 
   -- so is c's entry of the graph area
   pub room-arrival : 2 * c + 1 < length graph
-  room-arrival = omega (arith, p .below, graph-room f notices graph (p .searched .ready))
+  room-arrival = omega (arith, p .below, readable-room f graph (p .searched .readable))
 
   best-below : best < none → best < connections f
   best-below h = omega (arith, p .below, least-range _ _ c best (p .kept) h)
 
   -- so is that of the best so far
   pub room-best : best < none → 2 * best + 1 < length graph
-  room-best h = omega (arith, best-below h, graph-room f notices graph (p .searched .ready))
+  room-best h = omega (arith, best-below h, readable-room f graph (p .searched .readable))
 
   module _ (r : Bool) (e : r ≡ (reachedIn w c && eqb (to f c) b)) where
-    tested : arriving (networkBy f notices) w b c ≡ r
-    unfolding networkOf arriving
+    tested : arriving (shown f graph) w b c ≡ r
+    unfolding arriving
     tested = sym e
 
     -- c does not end a journey at b
-    pub turn-fails : r ≡ false → Better f notices w b (c + 1) best
+    pub turn-fails : r ≡ false → Better f graph w b (c + 1) best
     turn-fails q = rw add-one (scan-fails _ _ c best (tested ∙ q) (p .kept))
 
     few : c ≤ none
-    few = omega (arith, p .below, p .searched .ready .timetable .few)
+    few = omega (arith, p .below, p .searched .readable .timetable .few)
 
     -- c is the first that does
-    pub turn-first : r ≡ true → none ≤ best → Better f notices w b (c + 1) c
+    pub turn-first : r ≡ true → none ≤ best → Better f graph w b (c + 1) c
     turn-first q h = rw add-one (scan-first _ _ c best few (tested ∙ q) h (p .kept))
 
     module _ (h : best < none) (x y : ℕ) (ex : x ≡ arrivalIn graph c) (ey : y ≡ arrivalIn graph best) where
-      here : x ≡ networkBy f notices .arrival c
-      here = ex ∙ arrival-read f notices graph (p .searched .ready) c (p .below)
-
-      there : y ≡ networkBy f notices .arrival best
-      there = ey ∙ arrival-read f notices graph (p .searched .ready) best (best-below h)
-
       -- c arrives earlier than the best so far
-      pub turn-wins : r ≡ true → x < y → Better f notices w b (c + 1) c
-      turn-wins q l = rw add-one (scan-wins _ _ c best few (tested ∙ q) h (omega (arith, here, there)) (p .kept))
+      pub turn-wins : r ≡ true → x < y → Better f graph w b (c + 1) c
+      turn-wins q l = rw add-one (scan-wins _ _ c best few (tested ∙ q) h (omega (arith, ex, ey)) (p .kept))
 
       -- it does not
-      pub turn-loses : r ≡ true → y ≤ x → Better f notices w b (c + 1) best
-      turn-loses q l = rw add-one (scan-loses _ _ c best (tested ∙ q) h (omega (arith, here, there)) (p .kept))
+      pub turn-loses : r ≡ true → y ≤ x → Better f graph w b (c + 1) best
+      turn-loses q l = rw add-one (scan-loses _ _ c best (tested ∙ q) h (omega (arith, ex, ey)) (p .kept))

@@ -8,7 +8,7 @@ use Rattle.timetable.specs.File.{connections}
 use Rattle.model.specs.Network.{Network}
 use Rattle.model.specs.Predecessors.{predecessors, nowhere, journeyIn}
 use Rattle.model.specs.Operations.{Arrival, Enquiry, answered}
-use Rattle.model.specs.Ready.{networkBy, Ready}
+use Rattle.model.specs.Shown.{shown, Readable}
 use Rattle.journeys.specs.declared.Enquired.{Enquired}
 use Rattle.journeys.specs.declared.Enquired.the-variants.{Arrives, Refused}
 
@@ -23,8 +23,8 @@ readOut net work journey a b t =
     let w = take (net .connections) work in
     answered (nowhere net w a b) net t (journeyIn net w a b) work journey
 
--- accepted areas, the predecessors of an enquiry from stop a at time t in the work area, and room for the journey
-pub record Reading (f notices graph work journey : List ℕ) (a t : ℕ) : Type 0 where
-  pub ready : Ready f notices graph
-  pub filled : take (connections f) work ≡ predecessors (networkBy f notices) a t
+-- areas that can be read, the predecessors of an enquiry from stop a at time t in the work area, and room for the journey
+pub record Reading (f graph work journey : List ℕ) (a t : ℕ) : Type 0 where
+  pub readable : Readable f graph
+  pub filled : take (connections f) work ≡ predecessors (shown f graph) a t
   pub room : connections f ≤ length journey

@@ -6,20 +6,20 @@ use lib.ListN.{length}
 use Rattle.timetable.specs.File.{stops, connections}
 use Rattle.model.specs.Least.{Least}
 use Rattle.model.specs.Predecessors.{arriving}
-use Rattle.model.specs.Ready.{networkBy, Ready}
+use Rattle.model.specs.Shown.{shown, Readable}
 
--- accepted areas, and a predecessor for each connection
-pub record Searched (f notices graph w : List ℕ) : Type 0 where
-  pub ready : Ready f notices graph
+-- areas that can be read, and a predecessor for each connection
+pub record Searched (f graph w : List ℕ) : Type 0 where
+  pub readable : Readable f graph
   pub long : length w ≡ connections f
 
 -- of the connections below c, best is the first by arrival, then number, that ends a journey at stop b
 abbrev pub Better : List ℕ → List ℕ → List ℕ → ℕ → ℕ → ℕ → Type 0
-Better f notices w b c best = Least (arriving (networkBy f notices) w b) (networkBy f notices .arrival) c best
+Better f graph w b c best = Least (arriving (shown f graph) w b) (shown f graph .arrival) c best
 
 -- before the turn of connection c
-pub record Turn (f notices graph w : List ℕ) (s best c b : ℕ) : Type 0 where
-  pub searched : Searched f notices graph w
+pub record Turn (f graph w : List ℕ) (s best c b : ℕ) : Type 0 where
+  pub searched : Searched f graph w
   pub counted : s ≡ stops f
   pub below : c < connections f
-  pub kept : Better f notices w b c best
+  pub kept : Better f graph w b c best

@@ -10,7 +10,7 @@ ghost use Rattle.timetable.specs.File.{to};
 ghost use Rattle.timetable.specs.Room.{HasConnection};
 ghost use Rattle.model.specs.Predecessors.{reachedIn, lastTo, follow};
 ghost use Rattle.model.specs.Operations.{enquiry};
-ghost use Rattle.model.specs.Ready.{networkBy};
+ghost use Rattle.model.specs.Shown.{shown};
 ghost use Rattle.journeys.specs.Trail.{Trail};
 ghost use Rattle.journeys.specs.Search.{Searched, Turn, Better};
 ghost use Rattle.journeys.specs.Reading.{toldArrival, readOut, Reading};
@@ -41,7 +41,6 @@ fn arrives_at(file: &[u8], predecessors: &[u16], stops: usize, c: usize, stop: u
 // One turn of the search for the last connection: the better of the best so far and c.
 fn better(
     file: &[u8],
-    notices: &[u16],
     graph: &[u16],
     predecessors: &[u16],
     stops: usize,
@@ -49,8 +48,8 @@ fn better(
     c: usize,
     stop: u16,
 ) -> u16
-    requires { ⌜ Turn (now file) (now notices) (now graph) (now predecessors) stops best c stop ⌝ }
-    ensures { λ r. ⌜ Better (now (file .entry)) (now (notices .entry)) (now (predecessors .entry)) stop (c + 1) r ⌝ }
+    requires { ⌜ Turn (now file) (now graph) (now predecessors) stops best c stop ⌝ }
+    ensures { λ r. ⌜ Better (now (file .entry)) (now (graph .entry)) (now (predecessors .entry)) stop (c + 1) r ⌝ }
 {
     if !arrives_at(file, predecessors, stops, c, stop) {
         return best;
@@ -66,15 +65,15 @@ fn better(
 }
 
 // The last connection of the journey to a stop, or none.
-fn find_last(file: &[u8], notices: &[u16], graph: &[u16], predecessors: &[u16], stop: u16) -> u16
-    requires { ⌜ Searched (now file) (now notices) (now graph) (now predecessors) ⌝ }
-    ensures { λ r. ⌜ r ≡ lastTo (networkBy (now (file .entry)) (now (notices .entry))) (now (predecessors .entry)) stop ⌝ }
+fn find_last(file: &[u8], graph: &[u16], predecessors: &[u16], stop: u16) -> u16
+    requires { ⌜ Searched (now file) (now graph) (now predecessors) ⌝ }
+    ensures { λ r. ⌜ r ≡ lastTo (shown (now (file .entry)) (now (graph .entry))) (now (predecessors .entry)) stop ⌝ }
 {
     let stops = timetable::stops(file) as usize;
     let mut best = NONE;
     let mut c = 0;
     while c < predecessors.len() {
-        best = better(file, notices, graph, predecessors, stops, best, c, stop);
+        best = better(file, graph, predecessors, stops, best, c, stop);
         c += 1;
     }
     best
@@ -115,7 +114,6 @@ fn write_journey(predecessors: &[u16], journey: &mut [u16], last: u16) -> usize
 // order of travel to the front of `journey`, or refusal 30.
 pub fn read_journey(
     file: &[u8],
-    notices: &[u16],
     graph: &[u16],
     work: &[u16],
     journey: &mut [u16],
@@ -123,15 +121,15 @@ pub fn read_journey(
     to: u16,
     time: u16,
 ) -> Enquired
-    requires { ⌜ Reading (now file) (now notices) (now graph) (now work) (now journey) from time ⌝ }
-    ensures { λ r. ⌜ enquiry (toldArrival r) (now (work .entry)) (now (journey .exit)) ≡ readOut (networkBy (now (file .entry)) (now (notices .entry))) (now (work .entry)) (now (journey .entry)) from to time ⌝ }
+    requires { ⌜ Reading (now file) (now graph) (now work) (now journey) from time ⌝ }
+    ensures { λ r. ⌜ enquiry (toldArrival r) (now (work .entry)) (now (journey .exit)) ≡ readOut (shown (now (file .entry)) (now (graph .entry))) (now (work .entry)) (now (journey .entry)) from to time ⌝ }
 {
     if from == to {
         return Enquired::Arrives(time, 0);
     }
     let n = timetable::connections(file) as usize;
     let predecessors = &work[0..n];
-    let last = find_last(file, notices, graph, predecessors, to);
+    let last = find_last(file, graph, predecessors, to);
     if last >= NONE {
         return Enquired::Refused(UNREACHABLE, 0);
     }

@@ -10,7 +10,7 @@ use Rattle.model.specs.Graph.{waiting, transfer, Node, Arc, connection, 
 use Rattle.model.proofs.Tests.{by-lt}
 use Rattle.model.proofs.Rank.{rank-less}
 use Rattle.model.proofs.Follows.{Change}
-use Rattle.model.proofs.Boards.{Behind, waiting-listed, transfer-listed, entry-holds, entry-at}
+use Rattle.model.proofs.Boards.{Behind, change-on, waiting-listed, transfer-listed, entry-holds, entry-at}
 
 -- c's place in the order of departures
 abbrev pub placeOf : Network → ℕ → ℕ
@@ -38,7 +38,7 @@ module _ (net : Network) (sound : Sound net) where
 
     -- one can change to a transfer entry
     pub moves : transfer net c < none → (transfer net c < net .connections) × Change net c (transfer net c)
-    moves l = entry-holds net sound (transfer-listed net sound c) l
+    moves l = let e = entry-holds net sound (transfer-listed net sound c (net .to c)) l in (e .0, change-on net c _ (e .1))
 
   -- every arc leads forward
   pub arcs-forward : (x y : Node) → Arc net x y → Forward net x y
@@ -51,7 +51,7 @@ module _ (net : Network) (sound : Sound net) where
       (λ (g : net .departure d ≤ net .departure c). inr (omega (arith, sound .few), (sym (s .0), omega (arith, sound .few))))
       (by-lt (net .departure c) (net .departure d))
   arcs-forward x y (change {c} {d} h q k) =
-      let s : Change net c d = entry-at net sound (transfer-listed net sound c) q k in
+      let s : Change net c d = change-on net c d (entry-at net sound (transfer-listed net sound c (net .to c)) q k) in
       ⊎-elim
       (λ (l : net .arrival c < net .departure d). inl l)
       (λ (g : net .departure d ≤ net .arrival c). inr (omega arith, tt))

@@ -9,7 +9,7 @@ use borrow.Author.Tests.{lt-ltb, ltb-true, eq-eqb, eqb-true, le-leb, leb-true}
 use lib.Dec.{leb, eqb}
 use Rattle.model.specs.Least.{none, key, Least, tab}
 use Rattle.model.specs.Network.{Network, Sound}
-use Rattle.model.specs.Graph.{board, ready, firstOn, waiting, transfer, firstDeparture}
+use Rattle.model.specs.Graph.{board, ready, firstOn, waiting, transferTo, transfer, firstDeparture}
 use Rattle.model.proofs.Tests.{and-left, and-right, and-both}
 use Rattle.model.proofs.Least.{least-is, least-same}
 use Rattle.model.proofs.Tab.{tab-same}
@@ -23,6 +23,17 @@ pub data Listed (net : Network) (P : ℕ → Type 0) (r : ℕ) : Type 0 where
 -- d leaves from the same stop as c, and later, or in the same minute with a higher number
 abbrev pub Behind : Network → ℕ → ℕ → Type 0
 Behind net c d = (net .from d ≡ net .from c) × (key (net .departure) c < key (net .departure) d)
+
+-- d is on board b, and leaves when a passenger of e is ready, or later
+abbrev pub ChangeOn : Network → ℕ → ℕ → ℕ → Type 0
+ChangeOn net e b d = (board net d ≡ b) × (ready net e b ≤ net .departure d)
+
+-- one can change to a departure on the board of the stop, and every change is to one of these
+pub change-on : (net : Network) (e d : ℕ) → ChangeOn net e (net .to e) d → Change net e d
+change-on net e d p = (p .0, rw (← p .0) at (p .1))
+
+pub on-change : (net : Network) (e d : ℕ) → Change net e d → ChangeOn net e (net .to e) d
+on-change net e d p = rw (← p .0) (refl, p .1)
 
 module _ (net : Network) (sound : Sound net) where
   -- the first of a board's departures that pass a test, or none
@@ -51,9 +62,9 @@ module _ (net : Network) (sound : Sound net) where
   waiting-listed c = on-board-means (net .from c) _ _ (λ d s q. (s, ltb-true _ _ q)) (λ d p. (p .0, lt-ltb _ _ (p .1)))
 
   -- a transfer entry is the first departure that a passenger who arrives by c can change to
-  pub transfer-listed : (c : ℕ) → Listed net (Change net c) (transfer net c)
-  unfolding transfer
-  transfer-listed c = on-board-means (net .to c) _ _ (λ d s q. (s, leb-true _ _ q)) (λ d p. (p .0, le-leb _ _ (p .1)))
+  pub transfer-listed : (c b : ℕ) → Listed net (ChangeOn net c b) (transferTo net c b)
+  unfolding transferTo
+  transfer-listed c b = on-board-means b _ _ (λ d s q. (s, leb-true _ _ q)) (λ d p. (p .0, le-leb _ _ (p .1)))
 
   -- a first departure is the first from its stop
   pub first-listed : (s : ℕ) → Listed net (λ d. net .from d ≡ s) (firstDeparture net s)
@@ -82,7 +93,7 @@ pub record Agree (net net′ : Network) : Type 0 where
   pub from : (c : ℕ) → c < net .connections → net .from c ≡ net′ .from c
   pub to : (c : ℕ) → c < net .connections → net .to c ≡ net′ .to c
   pub departure : (c : ℕ) → c < net .connections → net .departure c ≡ net′ .departure c
-  pub ready : (c : ℕ) → c < net .connections → ready net c ≡ ready net′ c
+  pub ready : (c b : ℕ) → c < net .connections → ready net c b ≡ ready net′ c b
 
 -- entries depend only on the values of connections and stops that there are
 module _ (net net′ : Network) (few : net .connections ≤ none) (agree : Agree net net′) where
@@ -99,11 +110,12 @@ module _ (net net′ : Network) (few : net .connections ≤ none) (agree : Agree
   waiting-same c h = rw (← agree .from c h) (on-board-same (net .from c) _ _ (λ d k. rw (agree .departure c h, agree .departure d k)))
 
   -- transfer entries
+  pub transfer-to-same : (c b : ℕ) → c < net .connections → transferTo net c b ≡ transferTo net′ c b
+  unfolding transferTo
+  transfer-to-same c b h = on-board-same b _ _ (λ d k. rw (agree .departure d k, agree .ready c b h))
+
   pub transfer-same : (c : ℕ) → c < net .connections → transfer net c ≡ transfer net′ c
-  unfolding transfer
-  transfer-same c h =
-      on-board-same (net .to c) _ (λ d. leb (ready net′ c) (net′ .departure d)) (λ d k. rw (agree .departure d k, agree .ready c h))
-      ∙ ap (λ (b : ℕ). firstOn net′ b (λ d. leb (ready net′ c) (net′ .departure d))) (agree .to c h)
+  transfer-same c h = transfer-to-same c (net .to c) h ∙ ap (transferTo net′ c) (agree .to c h)
 
   -- first departures
   pub first-same : (s : ℕ) → firstDeparture net s ≡ firstDeparture net′ s

@@ -7,7 +7,7 @@ use native.Mathlib.Omega.{arith}
 use borrow.Author.Tests.{leb-true, eqb-true, eq-eqb, le-leb}
 use lib.Dec.{leb, eqb}
 use Rattle.model.specs.Network.{Network, Sound}
-use Rattle.model.specs.Graph.{ready}
+use Rattle.model.specs.Graph.{board, ready}
 use Rattle.model.specs.Journeys.{canBeFirst, canFollow}
 use Rattle.model.proofs.Tests.{and-left, and-right, and-both, or-cases, or-left, or-right}
 
@@ -29,7 +29,7 @@ module _ (net : Network) where
 
   -- one can change from e to c
   abbrev pub Change : ℕ → ℕ → Type 0
-  Change e c = (net .from c ≡ net .to e) × (ready net e ≤ net .departure c)
+  Change e c = (net .from c ≡ net .to e) × (ready net e (board net c) ≤ net .departure c)
 
   module _ (e c : ℕ) where
     abbrev meets : Bool
@@ -39,10 +39,10 @@ module _ (net : Network) where
     next = net .staysAboard c && eqb c (suc e)
 
     abbrev late : Bool
-    late = leb (ready net e) (net .departure c)
+    late = leb (ready net e (board net c)) (net .departure c)
 
     -- what can follow e starts where e ends, and is the next of its trip or leaves late enough
-    pub follow-means : canFollow net e c ≡ true → (net .from c ≡ net .to e) × (Aboard e c ⊎ (ready net e ≤ net .departure c))
+    pub follow-means : canFollow net e c ≡ true → (net .from c ≡ net .to e) × (Aboard e c ⊎ (ready net e (board net c) ≤ net .departure c))
     unfolding canFollow
     follow-means h = (
       eqb-true _ _ (and-left meets (next || late) h),
@@ -74,4 +74,4 @@ module _ (net : Network) where
     -- what can follow leaves later
     pub follows-later : (e c : ℕ) → e < net .connections → c < net .connections → canFollow net e c ≡ true → net .departure e < net .departure c
     follows-later e c k l h =
-        ⊎-elim (λ b. omega (arith, sound .forward e k, keeps-order e c l b)) (λ (r : ready net e ≤ net .departure c). omega (arith, sound .forward e k)) (follow-means e c h .1)
+        ⊎-elim (λ b. omega (arith, sound .forward e k, keeps-order e c l b)) (λ (r : ready net e (board net c) ≤ net .departure c). omega (arith, sound .forward e k)) (follow-means e c h .1)

@@ -11,7 +11,7 @@ use Rattle.timetable.specs.Check.{headerVerdict, stopVerdict, wrongStops, wrong
 use Rattle.model.specs.Least.{leastBelow, tab}
 use Rattle.model.specs.Notices.{noticesLength, flat, cut, areaOf, rowsOf, stands, entered, struck, standsRight, unusedRight, rowsFrom, rowsVerdict}
 use Rattle.model.specs.Times.{primaryDelay, expectedDeparture, expectedArrival, networkOf}
-use Rattle.model.specs.Graph.{firstOn, waiting, transfer, firstDeparture, times, graphOf}
+use Rattle.model.specs.Graph.{firstOn, waiting, transferTo, firstDeparture, times, graphOf}
 use Rattle.model.specs.Journeys.{canBeFirst, canFollow}
 use Rattle.model.specs.Predecessors.{choose, rounds, predecessors, follow, arriving, lastTo, nowhere, journeyIn}
 use Rattle.model.specs.Operations.{same, lengthsVerdict, contentsVerdict, built, posted, withdrawn, Arrival, Enquiry, enquired}
@@ -77,6 +77,6 @@ unfolding right table shown timesOf ask after
     fileVerdict headerVerdict stopVerdict wrongStops wrongTrip wrongTimes wrongJoin connectionVerdict firstBelow
     transferTime trip from to scheduledDeparture scheduledArrival staysAboard
     leastBelow tab flat cut areaOf rowsOf stands entered struck standsRight unusedRight rowsFrom rowsVerdict
-    primaryDelay expectedDeparture expectedArrival networkOf firstOn waiting transfer firstDeparture times graphOf
+    primaryDelay expectedDeparture expectedArrival networkOf firstOn waiting transferTo firstDeparture times graphOf
     canBeFirst canFollow choose rounds predecessors follow arriving lastTo nowhere journeyIn
 instances = refl

@@ -17,6 +17,7 @@ pub mod Follows
 pub mod Routes
 pub mod Rounds
 pub mod Journeys
+pub mod Shown
 pub mod Enquiries
 pub mod Fronts
 pub mod Runs

@@ -9,7 +9,7 @@ use lib.IntN.{ℤ, pos, negsuc, subℕ, _+ℤ_, _-ℤ_, negℤ, +ℤ-assoc, neg�
 use lib.Signed.{_≤ℤ_, leZ-yes}
 use Rattle.timetable.specs.Check.{maxTransferTime}
 use Rattle.model.specs.Network.{Network, lastExpected, Sound}
-use Rattle.model.specs.Graph.{ready}
+use Rattle.model.specs.Graph.{board, ready}
 use Rattle.model.specs.Margin.{marginBetween, marginOf}
 use Rattle.model.proofs.Tests.{by-lt}
 
@@ -84,19 +84,19 @@ leastMargin = negℤ (pos 5819)
 
 module _ (net : Network) (c d : ℕ) where
   -- just made: leaves when a passenger is ready
-  pub margin-zero : (marginOf net c d ≡ pos 0) ↔ (net .departure d ≡ ready net c)
+  pub margin-zero : (marginOf net c d ≡ pos 0) ↔ (net .departure d ≡ ready net c (board net d))
   unfolding marginOf
   margin-zero = (
-    λ h. let k = made-back (net .departure d) (net .arrival c) (net .transferTime (net .to c)) 0 h in omega arith,
-    λ h. made (net .departure d) (net .arrival c) (net .transferTime (net .to c)) 0 (omega arith),
+    λ h. let k = made-back (net .departure d) (net .arrival c) (net .transferTime c (board net d)) 0 h in omega arith,
+    λ h. made (net .departure d) (net .arrival c) (net .transferTime c (board net d)) 0 (omega arith),
   )
 
   -- missed by a minute
-  pub margin-missed : (marginOf net c d ≡ negsuc 0) ↔ (net .departure d + 1 ≡ ready net c)
+  pub margin-missed : (marginOf net c d ≡ negsuc 0) ↔ (net .departure d + 1 ≡ ready net c (board net d))
   unfolding marginOf
   margin-missed = (
-    λ h. let k = missed-back (net .departure d) (net .arrival c) (net .transferTime (net .to c)) 0 h in omega arith,
-    λ h. missed (net .departure d) (net .arrival c) (net .transferTime (net .to c)) 0 (omega arith),
+    λ h. let k = missed-back (net .departure d) (net .arrival c) (net .transferTime c (board net d)) 0 h in omega arith,
+    λ h. missed (net .departure d) (net .arrival c) (net .transferTime c (board net d)) 0 (omega arith),
   )
 
   -- a margin lies between its ends
@@ -104,7 +104,7 @@ module _ (net : Network) (c d : ℕ) where
   unfolding marginOf
   margin-range sound h k =
       let x : net .arrival c ≤ lastExpected = sound .early c h in
-      let y : net .transferTime (net .to c) ≤ maxTransferTime = sound .transfers (net .to c) (sound .to-stop c h) in (
-        margin-least (net .departure d) (net .arrival c) (net .transferTime (net .to c)) 5818 (omega arith),
-        margin-most (net .departure d) (net .arrival c) (net .transferTime (net .to c)) 5757 (omega (arith, sound .forward c h, sound .forward d k, sound .early d k)),
+      let y : net .transferTime c (board net d) ≤ maxTransferTime = sound .transfers c (board net d) h in (
+        margin-least (net .departure d) (net .arrival c) (net .transferTime c (board net d)) 5818 (omega arith),
+        margin-most (net .departure d) (net .arrival c) (net .transferTime c (board net d)) 5757 (omega (arith, sound .forward c h, sound .forward d k, sound .early d k)),
       )

@@ -12,7 +12,7 @@ use Rattle.model.specs.Journeys.{canBeFirst, canFollow, Ends, first, nex
 use Rattle.model.proofs.Tests.{by-lt}
 use Rattle.model.proofs.Follows.{first-means, first-test, Aboard, Change, follow-means, change-follows, aboard-follows}
 use Rattle.model.proofs.Journeys.{in-range}
-use Rattle.model.proofs.Boards.{Behind, waiting-listed, transfer-listed, entry-at, entry-first}
+use Rattle.model.proofs.Boards.{Behind, ChangeOn, change-on, on-change, waiting-listed, transfer-listed, entry-at, entry-first}
 
 module _ (net : Network) (sound : Sound net) (a t : ℕ) where
   -- what the list of a route to a node says: at an arrival it is a journey that ends there; at a departure it is empty and
@@ -38,7 +38,7 @@ module _ (net : Network) (sound : Sound net) (a t : ℕ) where
   waited c d [] h w r =
       let f = first-means net a t c r in
       first-test net a t d (w .0 ∙ f .0) (omega (arith, sound .few))
-  waited c d (e ∷ js) h w r = (r .0, (w .0 ∙ r .1 .0, omega (arith, sound .few)))
+  waited c d (e ∷ js) h w r = (r .0, (w .0 ∙ r .1 .0, rw (w .0) (omega (arith, sound .few))))
 
   -- and to a departure that one can change to
   changed : (c d : ℕ) (js : List ℕ) → Change net c d → Reads (arrivalOf c) js → Reads (departureOf d) js
@@ -52,7 +52,7 @@ module _ (net : Network) (sound : Sound net) (a t : ℕ) where
   reads (onto {js = js} r (aboard {c} h s)) =
       (refl, ahead c (suc c) js h (aboard-follows net c (suc c) (sound .joins c h s) (s, refl)) (reads r))
   reads (along {js = js} r (wait {c} {d} h q k)) = waited c d js k (entry-at net sound (waiting-listed net sound c) q k) (reads r)
-  reads (along {js = js} r (change {c} {d} h q k)) = changed c d js (entry-at net sound (transfer-listed net sound c) q k) (reads r)
+  reads (along {js = js} r (change {c} {d} h q k)) = changed c d js (change-on net c d (entry-at net sound (transfer-listed net sound c (net .to c)) q k)) (reads r)
 
   -- from a departure along waiting arcs to one that stands behind it on the board; k bounds how far
   wait-until : (k c d : ℕ) (js : List ℕ) → c < net .connections → d < net .connections → net .from d ≡ net .from c
@@ -73,8 +73,8 @@ module _ (net : Network) (sound : Sound net) (a t : ℕ) where
   change-to : (e c : ℕ) (js : List ℕ) → e < net .connections → c < net .connections → Change net e c → Route net a t (arrivalOf e) js → Route net a t (departureOf c) js
   change-to e c js h l m r =
       let d : ℕ = transfer net e in
-      let f = entry-first net sound (transfer-listed net sound e) c l m in
-      let v : Change net e d = entry-at net sound (transfer-listed net sound e) refl (f .0) in
+      let f = entry-first net sound (transfer-listed net sound e (net .to e)) c l (on-change net e c m) in
+      let v : ChangeOn net e (net .to e) d = entry-at net sound (transfer-listed net sound e (net .to e)) refl (f .0) in
       wait-until (key (net .departure) c) d c js (f .0) l (m .0 ∙ sym (v .0)) (f .1) (omega arith) (along r (change h refl (f .0)))
 
   -- along the arc to the next connection of the trip

@@ -7,11 +7,11 @@ use mathlib.Core.List.{List, [], _∷_, List·Memᴰ, List·Memᴰ·head, List·
 use Prim.Native.Nat.{ℕ, zero, suc, _+_, _-_, _<_, _≤_, max}
 use native.Mathlib.Omega.{arith}
 use borrow.Author.Tests.{eq-eqb, ne-eqb}
-use Rattle.timetable.specs.File.{connections, scheduledDeparture, scheduledArrival, staysAboard}
+use Rattle.timetable.specs.File.{connections, to, scheduledDeparture, scheduledArrival, staysAboard}
 use Rattle.timetable.specs.Accepted.{Timetable}
 use Rattle.model.specs.Notices.{Notice, mostStanding, Ascending, WellFormed}
 use Rattle.model.specs.Network.{Sound}
-use Rattle.model.specs.Times.{primaryDelay, ownDeparture, travelTime, expectedDeparture, expectedArrival, networkWith, networkOf}
+use Rattle.model.specs.Times.{Conditions, conditionsOf, primaryDelay, ownDeparture, travelTime, expectedDeparture, expectedArrival, networkWith, networkOf}
 use Rattle.model.proofs.Tests.{by-lt, by-eq, by-bool}
 
 -- one of the notices is for connection c and has delay d
@@ -98,90 +98,90 @@ pub first-starts : (f : List ℕ) → staysAboard f 0 ≡ false
 unfolding staysAboard
 first-starts f = refl
 
-module _ (f : List ℕ) (delay : ℕ → ℕ) where
+module _ (f : List ℕ) (conditions : Conditions) where
   -- the first connection of a trip leaves at its own departure
-  pub departure-own : (c : ℕ) → staysAboard f c ≡ false → expectedDeparture f delay c ≡ ownDeparture f delay c
+  pub departure-own : (c : ℕ) → staysAboard f c ≡ false → expectedDeparture f conditions c ≡ ownDeparture f conditions c
   unfolding expectedDeparture
   departure-own zero h = refl
   departure-own (suc c) h = rw h
 
   -- a further one at its own departure or when the one before it arrives, whichever is later
   pub departure-after : (c : ℕ) → staysAboard f (suc c) ≡ true
-      → expectedDeparture f delay (suc c) ≡ max (ownDeparture f delay (suc c)) (expectedArrival f delay c)
+      → expectedDeparture f conditions (suc c) ≡ max (ownDeparture f conditions (suc c)) (expectedArrival f conditions c)
   unfolding expectedDeparture expectedArrival
   departure-after c h = rw h
 
   -- it arrives its scheduled travel time later
-  pub travel-kept : (c : ℕ) → expectedArrival f delay c ≡ expectedDeparture f delay c + travelTime f c
+  pub travel-kept : (c : ℕ) → expectedArrival f conditions c ≡ expectedDeparture f conditions c + travelTime f c
   unfolding expectedArrival
   travel-kept c = refl
 
 -- times depend only on the delays of the connections so far
-pub departure-same : (f : List ℕ) (delay delay′ : ℕ → ℕ) (c : ℕ) → ((e : ℕ) → e < suc c → delay e ≡ delay′ e)
-    → expectedDeparture f delay c ≡ expectedDeparture f delay′ c
+pub departure-same : (f : List ℕ) (conditions conditions′ : Conditions) (c : ℕ) → ((e : ℕ) → e < suc c → conditions .delay e ≡ conditions′ .delay e)
+    → expectedDeparture f conditions c ≡ expectedDeparture f conditions′ c
 unfolding expectedDeparture
-departure-same f delay delay′ zero h = rw (h 0 (omega arith))
-departure-same f delay delay′ (suc c) h = rw (departure-same f delay delay′ c (λ e l. h e (omega arith)), h (suc c) (omega arith))
+departure-same f conditions conditions′ zero h = rw (h 0 (omega arith))
+departure-same f conditions conditions′ (suc c) h = rw (departure-same f conditions conditions′ c (λ e l. h e (omega arith)), h (suc c) (omega arith))
 
-pub arrival-same : (f : List ℕ) (delay delay′ : ℕ → ℕ) (c : ℕ) → ((e : ℕ) → e < suc c → delay e ≡ delay′ e)
-    → expectedArrival f delay c ≡ expectedArrival f delay′ c
+pub arrival-same : (f : List ℕ) (conditions conditions′ : Conditions) (c : ℕ) → ((e : ℕ) → e < suc c → conditions .delay e ≡ conditions′ .delay e)
+    → expectedArrival f conditions c ≡ expectedArrival f conditions′ c
 unfolding expectedArrival
-arrival-same f delay delay′ c h = rw (departure-same f delay delay′ c h)
+arrival-same f conditions conditions′ c h = rw (departure-same f conditions conditions′ c h)
 
 module _ (f : List ℕ) (table : Timetable f) where
-  module _ (delay : ℕ → ℕ) where
+  module _ (conditions : Conditions) where
     -- a connection arrives as much after its scheduled arrival as it leaves after its scheduled departure
     pub arrival-late : (c : ℕ) → c < connections f
-        → expectedArrival f delay c + scheduledDeparture f c ≡ expectedDeparture f delay c + scheduledArrival f c
+        → expectedArrival f conditions c + scheduledDeparture f c ≡ expectedDeparture f conditions c + scheduledArrival f c
     unfolding expectedArrival
     arrival-late c h = omega (arith, table .forward c h)
 
     -- where no delay is longer than d, no connection leaves later than its scheduled departure and d
-    pub departure-most : (d c : ℕ) → ((e : ℕ) → e < connections f → delay e ≤ d) → c < connections f
-        → expectedDeparture f delay c ≤ scheduledDeparture f c + d
-    departure-most d zero most h = omega (arith, departure-own f delay 0 (first-starts f), most 0 h)
+    pub departure-most : (d c : ℕ) → ((e : ℕ) → e < connections f → conditions .delay e ≤ d) → c < connections f
+        → expectedDeparture f conditions c ≤ scheduledDeparture f c + d
+    departure-most d zero most h = omega (arith, departure-own f conditions 0 (first-starts f), most 0 h)
     departure-most d (suc c) most h =
         let l : c < connections f = omega arith in
         ⊎-elim
-        (λ s. omega (arith, departure-after f delay c s, most (suc c) h, departure-most d c most l, arrival-late c l, table .keeps c h s))
-        (λ s. omega (arith, departure-own f delay (suc c) s, most (suc c) h))
+        (λ s. omega (arith, departure-after f conditions c s, most (suc c) h, departure-most d c most l, arrival-late c l, table .keeps c h s))
+        (λ s. omega (arith, departure-own f conditions (suc c) s, most (suc c) h))
         (by-bool (staysAboard f (suc c)))
 
     -- nor arrives later than its scheduled arrival and d
-    pub arrival-most : (d c : ℕ) → ((e : ℕ) → e < connections f → delay e ≤ d) → c < connections f
-        → expectedArrival f delay c ≤ scheduledArrival f c + d
+    pub arrival-most : (d c : ℕ) → ((e : ℕ) → e < connections f → conditions .delay e ≤ d) → c < connections f
+        → expectedArrival f conditions c ≤ scheduledArrival f c + d
     arrival-most d c most h = omega (arith, departure-most d c most h, arrival-late c h)
 
     -- a connection never leaves before its scheduled departure
-    pub departure-least : (c : ℕ) → scheduledDeparture f c ≤ expectedDeparture f delay c
-    departure-least zero = omega (arith, departure-own f delay 0 (first-starts f))
+    pub departure-least : (c : ℕ) → scheduledDeparture f c ≤ expectedDeparture f conditions c
+    departure-least zero = omega (arith, departure-own f conditions 0 (first-starts f))
     departure-least (suc c) =
-        ⊎-elim (λ s. omega (arith, departure-after f delay c s)) (λ s. omega (arith, departure-own f delay (suc c) s)) (by-bool (staysAboard f (suc c)))
+        ⊎-elim (λ s. omega (arith, departure-after f conditions c s)) (λ s. omega (arith, departure-own f conditions (suc c) s)) (by-bool (staysAboard f (suc c)))
 
     -- the network of an accepted timetable with any delays that may stand
-    pub sound-with : ((e : ℕ) → e < connections f → delay e ≤ mostStanding) → Sound (networkWith f delay)
+    pub sound-with : ((e : ℕ) → e < connections f → conditions .delay e ≤ mostStanding) → Sound (networkWith f conditions)
     sound-with most =
         record {
           few-stops = table .few-stops;
           few = table .few;
           from-stop = table .from-stop;
           to-stop = table .to-stop;
-          transfers = table .transfers;
+          transfers = λ c b h. table .transfers (to f c) (table .to-stop c h);
           forward = λ c h. omega (arith, table .forward c h, arrival-late c h);
           early = λ c h. omega (arith, table .within c h, arrival-most mostStanding c most h);
           starts = first-starts f;
           joins = table .joins;
-          keeps = λ c h s. omega (arith, departure-after f delay c s);
+          keeps = λ c h s. omega (arith, departure-after f conditions c s);
         }
 
   -- without notices a connection leaves and arrives as scheduled
-  pub on-time : (c : ℕ) → c < connections f → expectedDeparture f (λ e. primaryDelay e []) c ≡ scheduledDeparture f c
-  on-time c h = omega (arith, departure-least (λ e. primaryDelay e []) c, departure-most (λ e. primaryDelay e []) 0 c (λ e l. omega (arith, primary-none e)) h)
+  pub on-time : (c : ℕ) → c < connections f → expectedDeparture f (conditionsOf []) c ≡ scheduledDeparture f c
+  on-time c h = omega (arith, departure-least (conditionsOf []) c, departure-most (conditionsOf []) 0 c (λ e l. omega (arith, primary-none e)) h)
 
-  pub on-time-arrival : (c : ℕ) → c < connections f → expectedArrival f (λ e. primaryDelay e []) c ≡ scheduledArrival f c
-  on-time-arrival c h = omega (arith, on-time c h, arrival-late (λ e. primaryDelay e []) c h)
+  pub on-time-arrival : (c : ℕ) → c < connections f → expectedArrival f (conditionsOf []) c ≡ scheduledArrival f c
+  on-time-arrival c h = omega (arith, on-time c h, arrival-late (conditionsOf []) c h)
 
   -- the network of an accepted timetable with any notices that may stand together
   pub network-sound : (ns : List Notice) → WellFormed (connections f) ns → Sound (networkOf f ns)
   unfolding networkOf
-  network-sound ns rows = sound-with (λ c. primaryDelay c ns) (λ c h. primary-most c (connections f) 0 ns (rows .ascending))
+  network-sound ns rows = sound-with (conditionsOf ns) (λ c h. primary-most c (connections f) 0 ns (rows .ascending))

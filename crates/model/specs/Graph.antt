@@ -17,17 +17,21 @@ board net c = net .from c
 unfoldable pub firstOn : Network → ℕ → (ℕ → Bool) → ℕ
 firstOn net b test = leastBelow (λ d. eqb (board net d) b && test d) (net .departure) (net .connections)
 
--- when a passenger who arrives by c is ready to leave by another trip
-abbrev pub ready : Network → ℕ → ℕ
-ready net c = net .arrival c + net .transferTime (net .to c)
+-- when a passenger who arrives by c is ready to leave from board b by another trip
+abbrev pub ready : Network → ℕ → ℕ → ℕ
+ready net c b = net .arrival c + net .transferTime c b
 
 -- the next departure from the same stop
 unfoldable pub waiting : Network → ℕ → ℕ
 waiting net c = firstOn net (board net c) (λ d. ltb (key (net .departure) c) (key (net .departure) d))
 
 -- the first departure that a passenger who arrives by c can change to
-unfoldable pub transfer : Network → ℕ → ℕ
-transfer net c = firstOn net (net .to c) (λ d. leb (ready net c) (net .departure d))
+unfoldable pub transferTo : Network → ℕ → ℕ → ℕ
+transferTo net c b = firstOn net b (λ d. leb (ready net c b) (net .departure d))
+
+-- a connection's transfer entry
+abbrev pub transfer : Network → ℕ → ℕ
+transfer net c = transferTo net c (net .to c)
 
 -- the first departure of a stop
 unfoldable pub firstDeparture : Network → ℕ → ℕ

@@ -6,7 +6,7 @@ use mathlib.Core.List.{List, [], _∷_}
 use Prim.Native.Nat.{ℕ, suc, _+_, _<_, _≤_}
 use lib.Dec.{leb, eqb}
 use Rattle.model.specs.Network.{Network}
-use Rattle.model.specs.Graph.{ready, Node, departureOf, arrivalOf, Arc}
+use Rattle.model.specs.Graph.{board, ready, Node, departureOf, arrivalOf, Arc}
 
 -- c leaves stop a at time t or later
 unfoldable pub canBeFirst : Network → ℕ → ℕ → ℕ → Bool
@@ -14,7 +14,7 @@ canBeFirst net a t c = eqb (net .from c) a && leb t (net .departure c)
 
 -- c starts where e ends, and is the next of e's trip or leaves when a passenger of e is ready, or later
 unfoldable pub canFollow : Network → ℕ → ℕ → Bool
-canFollow net e c = eqb (net .from c) (net .to e) && ((net .staysAboard c && eqb c (suc e)) || leb (ready net e) (net .departure c))
+canFollow net e c = eqb (net .from c) (net .to e) && ((net .staysAboard c && eqb c (suc e)) || leb (ready net e (board net c)) (net .departure c))
 
 -- a journey from a at time t that is not empty, its last connection first
 pub data Ends (net : Network) (a t : ℕ) : List ℕ → Type 0 where

@@ -9,6 +9,7 @@ pub mod Predecessors
 pub mod Margin
 pub mod Operations
 pub mod Ready
+pub mod Shown
 pub mod Meaning
 pub mod Register
 pub mod Runs

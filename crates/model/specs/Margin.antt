@@ -2,6 +2,7 @@
 use lib.IntN.{ℤ, pos, _-ℤ_}
 use Prim.Native.Nat.{ℕ}
 use Rattle.model.specs.Network.{Network}
+use Rattle.model.specs.Graph.{board}
 
 -- departure minus arrival minus transfer time, exact and signed
 abbrev pub marginBetween : ℕ → ℕ → ℕ → ℤ
@@ -9,4 +10,4 @@ marginBetween departure arrival transfer = pos departure -ℤ pos arrival -ℤ p
 
 -- the margin of a change from c to d
 unfoldable pub marginOf : Network → ℕ → ℕ → ℤ
-marginOf net c d = marginBetween (net .departure d) (net .arrival c) (net .transferTime (net .to c))
+marginOf net c d = marginBetween (net .departure d) (net .arrival c) (net .transferTime c (board net d))

@@ -15,8 +15,8 @@ pub record Network : Type 0 where
   pub arrival : ℕ → ℕ
   -- c is the next connection of the same trip after c - 1
   pub staysAboard : ℕ → Bool
-  -- a stop's minimum transfer time
-  pub transferTime : ℕ → ℕ
+  -- the minimum transfer time from a connection to the departures of a board
+  pub transferTime : ℕ → ℕ → ℕ
 
 -- the last minute of a time in force
 abbrev pub lastExpected : ℕ
@@ -28,7 +28,7 @@ pub record Sound (net : Network) : Type 0 where
   pub few : net .connections ≤ maxConnections
   pub from-stop : (c : ℕ) → c < net .connections → net .from c < net .stops
   pub to-stop : (c : ℕ) → c < net .connections → net .to c < net .stops
-  pub transfers : (s : ℕ) → s < net .stops → net .transferTime s ≤ maxTransferTime
+  pub transfers : (c b : ℕ) → c < net .connections → net .transferTime c b ≤ maxTransferTime
   pub forward : (c : ℕ) → c < net .connections → net .departure c < net .arrival c
   pub early : (c : ℕ) → c < net .connections → net .arrival c ≤ lastExpected
   pub starts : net .staysAboard 0 ≡ false

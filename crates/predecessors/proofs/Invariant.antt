@@ -21,7 +21,7 @@ use Rattle.model.specs.Predecessors.{reachedIn, predecessors}
 use Rattle.model.specs.Order.{Slot}
 use Rattle.model.proofs.Tests.{by-lt, by-eq, by-last, by-bool, and-left, and-right, and-both}
 use Rattle.model.proofs.Follows.{Aboard, Change, follow-means, change-follows, aboard-follows, keeps-stop, follows-later}
-use Rattle.model.proofs.Boards.{Behind, waiting-listed, transfer-listed, entry-holds, entry-first}
+use Rattle.model.proofs.Boards.{change-on, on-change, Behind, waiting-listed, transfer-listed, entry-holds, entry-first}
 use Rattle.model.proofs.Rounds.{length-predecessors, numbered}
 use Rattle.model.proofs.Journeys.{pred, Before, Entry, itself, lowest, nothing, entry}
 use Rattle.predecessors.specs.Visits.{settled, visited, turned}
@@ -36,7 +36,7 @@ module _ (net : Network) (a t : ℕ) (place : ℕ → ℕ) where
   -- no connection that could take e's number to c is still to be visited at place i
   abbrev pub Clear : ℕ → ℕ → ℕ → Type 0
   Clear i e c =
-      (d : ℕ) → d < net .connections → net .from d ≡ net .from c → ready net e ≤ net .departure d → place d < place c → place d < i
+      (d : ℕ) → d < net .connections → net .from d ≡ net .from c → ready net e (net .from d) ≤ net .departure d → place d < place c → place d < i
 
   -- e is a connection that ends a valid journey, and one can change from it to c
   abbrev pub Offer : ℕ → ℕ → Type 0
@@ -155,7 +155,7 @@ module _ (net : Network) (a t : ℕ) (place : ℕ → ℕ) where
           let q : d - 1 ≡ e = omega (arith, on .1) in
           let r : reachedIn work (d - 1) ≡ true = lt-ltb (getD work (d - 1) none) none (omega (arith, known (on .0), ap (pred net a t) q, w .1)) in
           rw (and-both (net .staysAboard d) (reachedIn work (d - 1)) (on .0) r) (omega arith))
-          (λ (c : ready net e ≤ net .departure d). omega (arith, low-bound, all-collected e (w .0, w .1, (m .0, c))))
+          (λ (c : ready net e (net .from d) ≤ net .departure d). omega (arith, low-bound, all-collected e (w .0, w .1, (m .0, c))))
           (m .1)
 
       -- where d cannot be first that is its predecessor
@@ -193,7 +193,7 @@ module _ (net : Network) (a t : ℕ) (place : ℕ → ℕ) where
       after-wait k = rises d (waiting net d) h k (waits k .1)
 
       moves : transfer net d < n → Change net d (transfer net d)
-      moves k = entry-holds net sound (transfer-listed net sound d) (omega (arith, few)) .1
+      moves k = change-on net d _ (entry-holds net sound (transfer-listed net sound d (net .to d)) (omega (arith, few)) .1)
 
       after-move : transfer net d < n → place d < place (transfer net d)
       after-move k = before d (transfer net d) h k (change-follows net d (transfer net d) (moves k))
@@ -236,7 +236,7 @@ module _ (net : Network) (a t : ℕ) (place : ℕ → ℕ) where
             let u = waits (omega (arith, w .0)) in
             let f = s .offers d h (omega arith) (rw (w .1) at v) in
             let k : net .departure d ≤ net .departure (waiting net d) = omega (arith, u .1, w .0, few) in
-            let g : Change net b c = rw (w .0) (u .0 ∙ f .2 .0, omega (arith, f .2 .1, k)) in
+            let g : Change net b c = rw (w .0) (u .0 ∙ f .2 .0, rw (u .0) (omega (arith, f .2 .1, k))) in
             rw (w .1) (f .0, f .1, g))
             (λ m.
             let g : Change net d c = rw (m .0) (moves (omega (arith, m .0))) in
@@ -248,24 +248,24 @@ module _ (net : Network) (a t : ℕ) (place : ℕ → ℕ) where
         own : (c : ℕ) → c < n → suc i ≤ place c → Offer c d → Clear (suc i) d c → getD after c none ≤ d
         own c l r o z =
             let m = o .2 in
-            let f = entry-first net sound (transfer-listed net sound d) c l m in
+            let f = entry-first net sound (transfer-listed net sound d (net .to d)) c l (on-change net d c m) in
             let u = moves (f .0) in
             let q : transfer net d ≡ c = only (transfer net d) c (f .0) l (after-move (f .0)) (f .1) (λ k. z (transfer net d) (f .0) (u .0 ∙ sym (m .0)) (u .1) k) in
             rw q at (turn .moved (f .0) (λ e. away (sym e)) (omega (arith, settled-is, o .1)))
 
         -- a number that d held has come to the next departure from d's stop
-        handed : (c e : ℕ) → c < n → suc i ≤ place c → Offer c e → net .from c ≡ net .from d → ready net e ≤ net .departure d → Clear (suc i) e c → getD after c none ≤ e
+        handed : (c e : ℕ) → c < n → suc i ≤ place c → Offer c e → net .from c ≡ net .from d → ready net e (net .from d) ≤ net .departure d → Clear (suc i) e c → getD after c none ≤ e
         handed c e l r o f g z =
             let w = entry-first net sound (waiting-listed net sound d) c l (f, place-order (net .departure) n place few rises d c h l (omega arith)) in
             let u = waits (w .0) in
             let p = after-wait (w .0) in
             let k : net .departure d ≤ net .departure (waiting net d) = omega (arith, u .1, w .0, few) in
-            let q : waiting net d ≡ c = only (waiting net d) c (w .0) l p (w .1) (λ j. z (waiting net d) (w .0) (u .0 ∙ sym f) (omega (arith, k)) j) in
+            let q : waiting net d ≡ c = only (waiting net d) c (w .0) l p (w .1) (λ j. z (waiting net d) (w .0) (u .0 ∙ sym f) (rw (u .0) (omega (arith, k))) j) in
             let y : getD after c none ≤ b = rw q at (turn .waited (w .0) (λ e. omega (arith, ap place e, p))) in
             omega (arith, y, all-collected e (o .0, o .1, (sym f ∙ o .2 .0, g)))
 
         -- where d is not between, what was collected stays
-        stayed : (c e : ℕ) → c < n → suc i ≤ place c → place e < i → Offer c e → (net .from d ≡ net .from c → ready net e ≤ net .departure d → ⊥) → Clear (suc i) e c → getD after c none ≤ e
+        stayed : (c e : ℕ) → c < n → suc i ≤ place c → place e < i → Offer c e → (net .from d ≡ net .from c → ready net e (net .from d) ≤ net .departure d → ⊥) → Clear (suc i) e c → getD after c none ≤ e
         stayed c e l r q o out z =
             let y : getD work c none ≤ e = s .collected c e l (omega arith) q o (λ x j f g p. ⊎-elim (λ v. v) (λ v. let u : x ≡ d = same x d j h (v ∙ sym here) in absurd (out (rw u at f) (rw u at g))) (by-last (z x j f g p))) in
             omega (arith, y, turn .no-more c l (other c (λ q. omega arith)))
@@ -278,9 +278,9 @@ module _ (net : Network) (a t : ℕ) (place : ℕ → ℕ) where
             ⊎-elim
             (λ f.
             ⊎-elim
-            (λ (g : net .departure d < ready net e). stayed c e l r v o (λ x y. omega arith) z)
-            (λ (g : ready net e ≤ net .departure d). handed c e l r o f g z)
-            (by-lt (net .departure d) (ready net e)))
+            (λ (g : net .departure d < ready net e (net .from d)). stayed c e l r v o (λ x y. omega arith) z)
+            (λ (g : ready net e (net .from d) ≤ net .departure d). handed c e l r o f g z)
+            (by-lt (net .departure d) (ready net e (net .from d))))
             (λ f. stayed c e l r v o (λ x y. f (sym x)) z)
             (by-eq (net .from c) (net .from d)))
             (λ v. let u : e ≡ d = same e d (o .0) h (v ∙ sym here) in rw u (own c l r (rw u at o) (rw u at z)))

@@ -4,22 +4,23 @@ use mathlib.Core.List.{List}
 use Prim.Native.Nat.{ℕ, _<_}
 use Rattle.timetable.specs.File.{stops, connections}
 use Rattle.model.specs.Least.{none}
+use Rattle.model.specs.Graph.{departureIn}
 use Rattle.model.specs.Order.{Ordered}
-use Rattle.model.specs.Ready.{networkBy, Ready}
+use Rattle.model.specs.Shown.{Readable}
 
--- accepted areas, and the connections in the order of expected departure, with a slot for each
-pub record Sweepable (f notices graph order : List ℕ) : Type 0 where
-  pub ready : Ready f notices graph
-  pub ordered : Ordered (networkBy f notices .departure) (connections f) (connections f) order
+-- areas that can be read, and the connections in the order of expected departure, with a slot for each
+pub record Sweepable (f graph order : List ℕ) : Type 0 where
+  pub readable : Readable f graph
+  pub ordered : Ordered (departureIn graph) (connections f) (connections f) order
 
--- accepted areas of s stops, and what a slot of the order may hold
-pub record Turnable (f notices graph : List ℕ) (s x : ℕ) : Type 0 where
-  pub ready : Ready f notices graph
+-- areas that can be read, of s stops, and what a slot of the order may hold
+pub record Turnable (f graph : List ℕ) (s x : ℕ) : Type 0 where
+  pub readable : Readable f graph
   pub count : s ≡ stops f
   pub held : x < none → x < connections f
 
--- accepted areas of s stops, and a connection
-pub record Visitable (f notices graph : List ℕ) (s d : ℕ) : Type 0 where
-  pub ready : Ready f notices graph
+-- areas that can be read, of s stops, and a connection
+pub record Visitable (f graph : List ℕ) (s d : ℕ) : Type 0 where
+  pub readable : Readable f graph
   pub count : s ≡ stops f
   pub below : d < connections f

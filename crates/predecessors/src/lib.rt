@@ -7,7 +7,7 @@ ghost use Rattle.timetable.specs.File.{stops, connections};
 ghost use Rattle.model.specs.Least.{none};
 ghost use Rattle.model.specs.Journeys.{canBeFirst};
 ghost use Rattle.model.specs.Predecessors.{predecessors};
-ghost use Rattle.model.specs.Ready.{networkBy};
+ghost use Rattle.model.specs.Shown.{shown};
 ghost use Rattle.predecessors.specs.Visits.{offered, settled, visited, turned};
 ghost use Rattle.predecessors.specs.Sweepable.{Visitable, Turnable, Sweepable};
 
@@ -38,17 +38,9 @@ fn offer(x: u16, e: u16, work: &mut [u16])
 }
 
 // Whether connection d leaves stop `from` at `time` or later.
-fn can_be_first(
-    file: &[u8],
-    notices: &[u16],
-    graph: &[u16],
-    stops: usize,
-    d: usize,
-    from: u16,
-    time: u16,
-) -> bool
-    requires { ⌜ Visitable (now file) (now notices) (now graph) stops d ⌝ }
-    ensures { λ r. ⌜ r ≡ canBeFirst (networkBy (now (file .entry)) (now (notices .entry))) from time d ⌝ }
+fn can_be_first(file: &[u8], graph: &[u16], stops: usize, d: usize, from: u16, time: u16) -> bool
+    requires { ⌜ Visitable (now file) (now graph) stops d ⌝ }
+    ensures { λ r. ⌜ r ≡ canBeFirst (shown (now (file .entry)) (now (graph .entry))) from time d ⌝ }
 {
     if timetable::from(file, stops, d) == from {
         return time <= entries::departure(graph, d);
@@ -59,7 +51,6 @@ fn can_be_first(
 // The entry that connection d gets on its visit.
 fn settle(
     file: &[u8],
-    notices: &[u16],
     graph: &[u16],
     stops: usize,
     d: u16,
@@ -67,11 +58,11 @@ fn settle(
     time: u16,
     work: &[u16],
 ) -> u16
-    requires { ⌜ Visitable (now file) (now notices) (now graph) stops d × (length (now work) ≡ connections (now file)) ⌝ }
-    ensures { λ r. ⌜ r ≡ settled (networkBy (now (file .entry)) (now (notices .entry))) from time (now (work .entry)) d ⌝ }
+    requires { ⌜ Visitable (now file) (now graph) stops d × (length (now work) ≡ connections (now file)) ⌝ }
+    ensures { λ r. ⌜ r ≡ settled (shown (now (file .entry)) (now (graph .entry))) from time (now (work .entry)) d ⌝ }
 {
     let c = d as usize;
-    if can_be_first(file, notices, graph, stops, c, from, time) {
+    if can_be_first(file, graph, stops, c, from, time) {
         return d;
     }
     let collected = work[c];
@@ -88,23 +79,14 @@ fn settle(
 
 // The visit of connection d: what it has collected goes on along its waiting arc, d gets its entry, and if it is reached it
 // is offered along its transfer arc.
-fn visit(
-    file: &[u8],
-    notices: &[u16],
-    graph: &[u16],
-    stops: usize,
-    d: u16,
-    from: u16,
-    time: u16,
-    work: &mut [u16],
-)
-    requires { ⌜ Visitable (now file) (now notices) (now graph) stops d × (length (now work) ≡ connections (now file)) ⌝ }
-    ensures { λ _. ⌜ now (work .exit) ≡ visited (networkBy (now (file .entry)) (now (notices .entry))) from time (now (work .entry)) d ⌝ }
+fn visit(file: &[u8], graph: &[u16], stops: usize, d: u16, from: u16, time: u16, work: &mut [u16])
+    requires { ⌜ Visitable (now file) (now graph) stops d × (length (now work) ≡ connections (now file)) ⌝ }
+    ensures { λ _. ⌜ now (work .exit) ≡ visited (shown (now (file .entry)) (now (graph .entry))) from time (now (work .entry)) d ⌝ }
 {
     let n = work.len();
     let c = d as usize;
     let collected = work[c];
-    let entry = settle(file, notices, graph, stops, d, from, time, work);
+    let entry = settle(file, graph, stops, d, from, time, work);
     offer(entries::waiting(graph, n, c), collected, work);
     work[c] = entry;
     if entry < NONE {
@@ -113,43 +95,26 @@ fn visit(
 }
 
 // The turn of a slot of the order: the visit of the connection d that it holds, if it holds one.
-fn turn(
-    file: &[u8],
-    notices: &[u16],
-    graph: &[u16],
-    stops: usize,
-    d: u16,
-    from: u16,
-    time: u16,
-    work: &mut [u16],
-)
-    requires { ⌜ Turnable (now file) (now notices) (now graph) stops d × (length (now work) ≡ connections (now file)) ⌝ }
-    ensures { λ _. ⌜ now (work .exit) ≡ turned (networkBy (now (file .entry)) (now (notices .entry))) from time (now (work .entry)) d ⌝ }
+fn turn(file: &[u8], graph: &[u16], stops: usize, d: u16, from: u16, time: u16, work: &mut [u16])
+    requires { ⌜ Turnable (now file) (now graph) stops d × (length (now work) ≡ connections (now file)) ⌝ }
+    ensures { λ _. ⌜ now (work .exit) ≡ turned (shown (now (file .entry)) (now (graph .entry))) from time (now (work .entry)) d ⌝ }
 {
     if d < NONE {
-        visit(file, notices, graph, stops, d, from, time, work);
+        visit(file, graph, stops, d, from, time, work);
     }
 }
 
 // The predecessors, where the work area has an entry for each connection and no more.
-fn sweep(
-    file: &[u8],
-    notices: &[u16],
-    graph: &[u16],
-    order: &[u16],
-    from: u16,
-    time: u16,
-    work: &mut [u16],
-)
-    requires { ⌜ Sweepable (now file) (now notices) (now graph) (now order) × (length (now work) ≡ connections (now file)) ⌝ }
-    ensures { λ _. ⌜ now (work .exit) ≡ predecessors (networkBy (now (file .entry)) (now (notices .entry))) from time ⌝ }
+fn sweep(file: &[u8], graph: &[u16], order: &[u16], from: u16, time: u16, work: &mut [u16])
+    requires { ⌜ Sweepable (now file) (now graph) (now order) × (length (now work) ≡ connections (now file)) ⌝ }
+    ensures { λ _. ⌜ now (work .exit) ≡ predecessors (shown (now (file .entry)) (now (graph .entry))) from time ⌝ }
 {
     clear(work);
     let stops = timetable::stops(file) as usize;
     let slots = work.len();
     let mut slot = 0;
     while slot < slots {
-        turn(file, notices, graph, stops, order[slot], from, time, work);
+        turn(file, graph, stops, order[slot], from, time, work);
         slot += 1;
     }
 }
@@ -158,16 +123,15 @@ fn sweep(
 // departure.
 pub fn fill_predecessors(
     file: &[u8],
-    notices: &[u16],
     graph: &[u16],
     order: &[u16],
     from: u16,
     time: u16,
     work: &mut [u16],
 )
-    requires { ⌜ Sweepable (now file) (now notices) (now graph) (now order) × (connections (now file) ≤ length (now work)) ⌝ }
-    ensures { λ _. ⌜ now (work .exit) ≡ predecessors (networkBy (now (file .entry)) (now (notices .entry))) from time ++ drop (connections (now (file .entry))) (now (work .entry)) ⌝ }
+    requires { ⌜ Sweepable (now file) (now graph) (now order) × (connections (now file) ≤ length (now work)) ⌝ }
+    ensures { λ _. ⌜ now (work .exit) ≡ predecessors (shown (now (file .entry)) (now (graph .entry))) from time ++ drop (connections (now (file .entry))) (now (work .entry)) ⌝ }
 {
     let n = timetable::connections(file) as usize;
-    sweep(file, notices, graph, order, from, time, &mut work[0..n]);
+    sweep(file, graph, order, from, time, &mut work[0..n]);
 }

@@ -11,17 +11,17 @@ use Rattle.timetable.specs.Check.{fileVerdict, maxConnections}
 use Rattle.timetable.specs.Accepted.{Timetable}
 use Rattle.timetable.specs.declared.Verdict.the-variants.{Passed, Refused}
 use Rattle.timetable.proofs.Accepted.{accepted-iff}
-use Rattle.model.specs.Times.{networkOf}
 use Rattle.model.specs.Graph.{departureIn}
 use Rattle.model.specs.Order.{Ordered}
 use Rattle.model.specs.Predecessors.{predecessors}
 use Rattle.model.specs.Operations.{Arrival, contentsVerdict, enquiry, searched, enquired}
 use Rattle.model.specs.Ready.{networkBy, Ready}
-use Rattle.model.proofs.Ready.{ready-by, sound, graph-room, departure-read}
+use Rattle.model.specs.Shown.{shown, Readable}
+use Rattle.model.proofs.Ready.{ready-by}
+use Rattle.model.proofs.Shown.{readable-room, readable, searched-shown}
 use Rattle.model.proofs.Rounds.{length-predecessors}
 use Rattle.model.proofs.Enquiries.{enquiry-means}
 use Rattle.departures.specs.Order.{minutes}
-use Rattle.departures.proofs.Sorting.{ordered-same}
 use Rattle.predecessors.specs.Sweepable.{Sweepable}
 use Rattle.journeys.specs.Reading.{readOut, Reading}
 use Rattle.timetable.proofs.Order.{else-assoc}
@@ -39,46 +39,43 @@ module _ (f notices graph work journey : List ℕ) (s : ℕ) where
       record { timetable = x; stop-count = y; lengths = r .0; work-room = r .1; journey-room = r .2 }
 
   -- what is known once all checks have passed
-  pub searchable : Fitting f notices graph work journey s → contentsVerdict f notices graph ≡ Passed
-      → Searchable f notices graph work journey
-  searchable p e =
-      record {
-        ready = ready-by f notices graph (accepted-iff f .1 (p .timetable)) (p .lengths) e;
-        work-room = p .work-room;
-        journey-room = p .journey-room;
-      }
+  module _ (p : Fitting f notices graph work journey s) (e : contentsVerdict f notices graph ≡ Passed) where
+    ready : Ready f notices graph
+    ready = ready-by f notices graph (accepted-iff f .1 (p .timetable)) (p .lengths) e
 
--- the n connections of accepted areas
-module _ (f notices graph : List ℕ) (r : Ready f notices graph) (n : ℕ) (q : n ≡ connections f) where
+    pub searchable : Searchable f graph work journey
+    searchable = record { readable = readable f notices graph ready; work-room = p .work-room; journey-room = p .journey-room }
+
+    -- what the graph area shows is what the notices give
+    pub searched-by : (a b t : ℕ) → searched Passed (shown f graph) a b t work journey ≡ searched Passed (networkBy f notices) a b t work journey
+    searched-by a b t = searched-shown f notices graph ready a b t work journey
+
+-- the n connections of areas that can be read
+module _ (f graph : List ℕ) (r : Readable f graph) (n : ℕ) (q : n ≡ connections f) where
   -- their departures can be sorted
   pub sortable : (n ≤ maxConnections) × (2 * n ≤ length graph) × ((c : ℕ) → c < n → departureIn graph c < minutes)
-  unfolding networkOf
   sortable =
-      let few : connections f ≤ maxConnections = r .timetable .few in
-      let s = sound f notices graph r in (
-        omega arith,
-        omega (arith, graph-room f notices graph r),
-        λ c h. let l : c < connections f = rw q at h in omega (arith, departure-read f notices graph r c l, s .forward c l, s .early c l),
+      let s = r .sound in (
+        omega (arith, s .few),
+        omega (arith, readable-room f graph r),
+        λ c h. let l : c < connections f = rw q at h in omega (arith, s .forward c l, s .early c l),
       )
 
-  -- the order of the departures in the graph area is the one in the network
-  pub sweepable : (order : List ℕ) → Ordered (departureIn graph) n n order → Sweepable f notices graph order
-  sweepable order o =
-      record { ready = r; ordered = ordered-same _ _ (connections f) (connections f) order (departure-read f notices graph r) (rw q at o) }
+  -- and gone through in their order
+  pub sweepable : (order : List ℕ) → Ordered (departureIn graph) n n order → Sweepable f graph order
+  sweepable order o = record { readable = r; ordered = rw q at o }
 
-module _ (f notices graph work journey : List ℕ) (a t : ℕ) (p : Searchable f notices graph work journey)
-    (filled : List ℕ) (e : filled ≡ predecessors (networkBy f notices) a t ++ drop (connections f) work) where
-  front : take (connections f) filled ≡ predecessors (networkBy f notices) a t
-  unfolding networkOf
-  front = ap (take (connections f)) e ∙ take-at _ _ _ (length-predecessors (networkBy f notices) a t)
+module _ (f graph work journey : List ℕ) (a t : ℕ) (p : Searchable f graph work journey) (filled : List ℕ)
+    (e : filled ≡ predecessors (shown f graph) a t ++ drop (connections f) work) where
+  front : take (connections f) filled ≡ predecessors (shown f graph) a t
+  front = ap (take (connections f)) e ∙ take-at _ _ _ (length-predecessors (shown f graph) a t)
 
   -- the journey can be read out of the predecessors
-  pub reading : Reading f notices graph filled journey a t
-  reading = record { ready = p .ready; filled = front; room = p .journey-room }
+  pub reading : Reading f graph filled journey a t
+  reading = record { readable = p .readable; filled = front; room = p .journey-room }
 
   -- what is read is what is searched for
-  pub searched-read : (b : ℕ) → readOut (networkBy f notices) filled journey a b t ≡ searched Passed (networkBy f notices) a b t work journey
-  unfolding networkOf
+  pub searched-read : (b : ℕ) → readOut (shown f graph) filled journey a b t ≡ searched Passed (shown f graph) a b t work journey
   searched-read b = rw (front, e)
 
 module _ (f notices graph work journey : List ℕ) (a b t : ℕ) where

@@ -12,12 +12,13 @@ use Rattle.timetable.specs.Check.{fileVerdict}
 use Rattle.timetable.specs.declared.Verdict.the-variants.{Passed, Refused}
 use Rattle.timetable.proofs.Accepted.{accepted-iff, room-for-stop}
 use Rattle.timetable.proofs.Order.{else-passed, else-assoc}
-use Rattle.model.specs.Times.{networkOf}
 use Rattle.model.specs.Graph.{departureIn, arrivalIn}
 use Rattle.model.specs.Margin.{marginBetween, marginOf}
 use Rattle.model.specs.Operations.{lengthsVerdict, contentsVerdict, margined, areasVerdict}
-use Rattle.model.specs.Ready.{networkBy}
-use Rattle.model.proofs.Ready.{ready-by, graph-room, departure-read, arrival-read}
+use Rattle.model.specs.Ready.{networkBy, Ready}
+use Rattle.model.specs.Shown.{shown}
+use Rattle.model.proofs.Ready.{ready-by}
+use Rattle.model.proofs.Shown.{readable-room, readable, margin-shown}
 use Rattle.search.specs.Verdicts.{changeVerdict}
 use Rattle.search.specs.Given.{Changing}
 use Rattle.search.proofs.Verdicts.{change-passed}
@@ -35,33 +36,34 @@ module _ (f notices graph : List ℕ) (c d : ℕ) where
   margined-parts e = rw e (simp else-assoc)
 
   -- what is known once all checks have passed
-  pub changing : (s n : ℕ) → Opened f s n → areasVerdict f notices graph ≡ Passed → changeVerdict f c d ≡ Passed → Changing f notices graph s c d
-  changing s n p x y =
-      let l = else-passed (lengthsVerdict f notices graph) _ .0 x in
-      let k = else-passed (contentsVerdict f notices graph) Passed .0 (l .1) in
-      let h = change-passed f c d y in
-      record {
-        ready = ready-by f notices graph (accepted-iff f .1 (p .timetable)) (l .0) (k .0);
-        stop-count = p .stops;
-        first-below = h .0;
-        second-below = h .1;
-      }
+  module _ (s n : ℕ) (p : Opened f s n) (x : areasVerdict f notices graph ≡ Passed) (y : changeVerdict f c d ≡ Passed) where
+    ready : Ready f notices graph
+    ready =
+        let l = else-passed (lengthsVerdict f notices graph) _ .0 x in
+        ready-by f notices graph (accepted-iff f .1 (p .timetable)) (l .0) (else-passed (contentsVerdict f notices graph) Passed .0 (l .1) .0)
 
-  module _ (s : ℕ) (p : Changing f notices graph s c d) where
-    -- what the readers ask
-    pub room-stop : (x e : ℕ) → x ≡ to f e → e < connections f → HasStop f x
-    room-stop x e q h = rw q (room-for-stop f (p .ready .timetable) (to f e) (p .ready .timetable .to-stop e h))
+    pub changing : Changing f graph s c d
+    changing =
+        let h = change-passed f c d y in
+        record { readable = readable f notices graph ready; stop-count = p .stops; first-below = h .0; second-below = h .1 }
 
-    pub room-departure : 2 * d < length graph
-    room-departure = omega (arith, p .second-below, graph-room f notices graph (p .ready))
+    -- what the graph area shows is what the notices give
+    pub margin-by-notices : marginOf (shown f graph) c d ≡ marginOf (networkBy f notices) c d
+    margin-by-notices = let h = change-passed f c d y in margin-shown f notices graph ready c d (h .0) (h .1)
 
-    pub room-arrival : 2 * c + 1 < length graph
-    room-arrival = omega (arith, p .first-below, graph-room f notices graph (p .ready))
+module _ (f graph : List ℕ) (c d s : ℕ) (p : Changing f graph s c d) where
+  -- what the readers ask
+  pub room-stop : (x e : ℕ) → x ≡ to f e → e < connections f → HasStop f x
+  room-stop x e q h = rw q (room-for-stop f (p .readable .timetable) (to f e) (p .readable .timetable .to-stop e h))
 
-    -- what they read is the margin
-    pub margin-read : (departure arrival stop transfer : ℕ) → departure ≡ departureIn graph d → arrival ≡ arrivalIn graph c
-        → stop ≡ to f c → transfer ≡ transferTime f stop → marginBetween departure arrival transfer ≡ marginOf (networkBy f notices) c d
-    unfolding marginOf networkOf
-    margin-read departure arrival stop transfer x y z w =
-        let g = p .ready in
-        rw (x, departure-read f notices graph g d (p .second-below), y, arrival-read f notices graph g c (p .first-below), w, z)
+  pub room-departure : 2 * d < length graph
+  room-departure = omega (arith, p .second-below, readable-room f graph (p .readable))
+
+  pub room-arrival : 2 * c + 1 < length graph
+  room-arrival = omega (arith, p .first-below, readable-room f graph (p .readable))
+
+  -- what they read is the margin
+  pub margin-read : (departure arrival stop transfer : ℕ) → departure ≡ departureIn graph d → arrival ≡ arrivalIn graph c → stop ≡ to f c
+      → transfer ≡ transferTime f stop → marginBetween departure arrival transfer ≡ marginOf (shown f graph) c d
+  unfolding marginOf
+  margin-read departure arrival stop transfer x y z w = rw (x, y, w, z)

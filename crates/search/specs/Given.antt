@@ -7,7 +7,7 @@ use Rattle.timetable.specs.File.{stops, connections}
 use Rattle.timetable.specs.Accepted.{Timetable}
 use Rattle.timetable.specs.declared.Verdict.the-variants.{Passed}
 use Rattle.model.specs.Operations.{lengthsVerdict}
-use Rattle.model.specs.Ready.{Ready}
+use Rattle.model.specs.Shown.{Readable}
 
 -- an accepted timetable of n connections
 pub record Numbered (f : List ℕ) (n : ℕ) : Type 0 where
@@ -22,15 +22,15 @@ pub record Fitting (f notices graph work journey : List ℕ) (s : ℕ) : Type 0 
   pub work-room : connections f ≤ length work
   pub journey-room : connections f ≤ length journey
 
--- accepted areas, and room for predecessors and journey
-pub record Searchable (f notices graph work journey : List ℕ) : Type 0 where
-  pub ready : Ready f notices graph
+-- areas that can be read, and room for predecessors and journey
+pub record Searchable (f graph work journey : List ℕ) : Type 0 where
+  pub readable : Readable f graph
   pub work-room : connections f ≤ length work
   pub journey-room : connections f ≤ length journey
 
--- accepted areas of s stops, and two connections
-pub record Changing (f notices graph : List ℕ) (s c d : ℕ) : Type 0 where
-  pub ready : Ready f notices graph
+-- areas that can be read, of s stops, and two connections
+pub record Changing (f graph : List ℕ) (s c d : ℕ) : Type 0 where
+  pub readable : Readable f graph
   pub stop-count : s ≡ stops f
   pub first-below : c < connections f
   pub second-below : d < connections f

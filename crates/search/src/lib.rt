@@ -8,6 +8,7 @@ ghost use Rattle.timetable.specs.declared.Verdict.the-variants.{Passed};
 ghost use Rattle.model.specs.Margin.{marginBetween, marginOf};
 ghost use Rattle.model.specs.Operations.{enquiry, searched, margined, areasVerdict};
 ghost use Rattle.model.specs.Ready.{networkBy};
+ghost use Rattle.model.specs.Shown.{shown};
 ghost use Rattle.journeys.specs.Reading.{toldArrival};
 ghost use Rattle.search.specs.Answered.{Answered};
 ghost use Rattle.search.specs.Margin.{toldMargin};
@@ -103,7 +104,6 @@ fn request_verdict(stops: u16, from: u16, to: u16, time: u16) -> Verdict
 // The journey, once all checks have passed: the departures are sorted, and the predecessors are filled in that order.
 fn find_journey(
     file: &[u8],
-    notices: &[u16],
     graph: &[u16],
     work: &mut [u16],
     journey: &mut [u16],
@@ -111,14 +111,14 @@ fn find_journey(
     to: u16,
     time: u16,
 ) -> Enquired
-    requires { ⌜ Searchable (now file) (now notices) (now graph) (now work) (now journey) ⌝ }
-    ensures { λ r. ⌜ enquiry (toldArrival r) (now (work .exit)) (now (journey .exit)) ≡ searched Passed (networkBy (now (file .entry)) (now (notices .entry))) from to time (now (work .entry)) (now (journey .entry)) ⌝ }
+    requires { ⌜ Searchable (now file) (now graph) (now work) (now journey) ⌝ }
+    ensures { λ r. ⌜ enquiry (toldArrival r) (now (work .exit)) (now (journey .exit)) ≡ searched Passed (shown (now (file .entry)) (now (graph .entry))) from to time (now (work .entry)) (now (journey .entry)) ⌝ }
 {
     let n = timetable::connections(file) as usize;
     let mut order = [NONE; MAX_CONNECTIONS];
     departures::order_departures(graph, n, &mut order);
-    predecessors::fill_predecessors(file, notices, graph, &order, from, time, work);
-    journeys::read_journey(file, notices, graph, work, journey, from, to, time)
+    predecessors::fill_predecessors(file, graph, &order, from, time, work);
+    journeys::read_journey(file, graph, work, journey, from, to, time)
 }
 
 // The enquiry in areas that are long enough.
@@ -150,7 +150,7 @@ fn enquire_in(
         }
         Verdict::Passed => {}
     }
-    find_journey(file, notices, graph, work, journey, from, to, time)
+    find_journey(file, graph, work, journey, from, to, time)
 }
 
 // The enquiry in an accepted timetable.
@@ -246,16 +246,9 @@ fn minutes(departure: u16, arrival: u16, transfer: u16) -> i32
 }
 
 // The minutes of a change, once all checks have passed.
-fn change_minutes(
-    file: &[u8],
-    notices: &[u16],
-    graph: &[u16],
-    stops: u16,
-    connection: u16,
-    next: u16,
-) -> i32
-    requires { ⌜ Changing (now file) (now notices) (now graph) stops connection next ⌝ }
-    ensures { λ r. ⌜ r ≡ marginOf (networkBy (now (file .entry)) (now (notices .entry))) connection next ⌝ }
+fn change_minutes(file: &[u8], graph: &[u16], stops: u16, connection: u16, next: u16) -> i32
+    requires { ⌜ Changing (now file) (now graph) stops connection next ⌝ }
+    ensures { λ r. ⌜ r ≡ marginOf (shown (now (file .entry)) (now (graph .entry))) connection next ⌝ }
 {
     let c = connection as usize;
     let stop = timetable::to(file, stops as usize, c);
@@ -292,7 +285,7 @@ fn margin_by(
         }
         Verdict::Passed => {}
     }
-    Margined::Minutes(change_minutes(file, notices, graph, stops, connection, next))
+    Margined::Minutes(change_minutes(file, graph, stops, connection, next))
 }
 
 // The margin of a change from `connection` to `next`.

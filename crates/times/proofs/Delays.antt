@@ -11,13 +11,13 @@ use Rattle.model.specs.Least.{tab}
 use Rattle.model.specs.Network.{Network}
 use Rattle.model.specs.Notices.{width, cut, rowsOf}
 use Rattle.model.specs.Graph.{times}
-use Rattle.model.specs.Times.{primaryDelay, networkOf}
+use Rattle.model.specs.Times.{Conditions, conditionsOf, primaryDelay, networkOf}
 use Rattle.model.specs.Ready.{networkBy}
 use Rattle.model.proofs.Tab.{length-tab, getD-tab}
 use Rattle.model.proofs.Times.{primary-most, departure-same, arrival-same}
 use Rattle.notices.specs.Kept.{Kept}
 use Rattle.notices.proofs.Standing.{formed-kept, rows-standing}
-use Rattle.times.specs.Times.{Delays, Standing, networkIn}
+use Rattle.times.specs.Times.{conditionsIn, Delays, Standing, networkIn}
 
 -- times depend only on the departures and arrivals of their connections
 pub times-same : (net net′ : Network) (n : ℕ) → ((c : ℕ) → c < n → net .departure c ≡ net′ .departure c)
@@ -63,8 +63,8 @@ module _ (f notices whole last : List ℕ) (n : ℕ) (standing : Standing f noti
   pub times-standing : times (networkIn f (putMid 0 (n - 0) whole last)) n ≡ times (networkBy f notices) n
   unfolding networkOf
   times-standing =
-      let delay : ℕ → ℕ = λ c. getD (putMid 0 (n - 0) whole last) c 0 in
-      let delay′ : ℕ → ℕ = λ c. primaryDelay c (rowsOf notices) in
+      let conditions : Conditions = conditionsIn (putMid 0 (n - 0) whole last) in
+      let conditions′ : Conditions = conditionsOf (rowsOf notices) in
       times-same (networkIn f (putMid 0 (n - 0) whole last)) (networkBy f notices) n
-      (λ c h. departure-same f delay delay′ c (λ e l. delay-is e (omega arith)))
-      (λ c h. arrival-same f delay delay′ c (λ e l. delay-is e (omega arith)))
+      (λ c h. departure-same f conditions conditions′ c (λ e l. delay-is e (omega arith)))
+      (λ c h. arrival-same f conditions conditions′ c (λ e l. delay-is e (omega arith)))

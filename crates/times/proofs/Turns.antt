@@ -14,12 +14,12 @@ use Rattle.timetable.proofs.Accepted.{room-for}
 use Rattle.model.specs.Network.{Network, lastExpected}
 use Rattle.model.specs.Notices.{mostStanding}
 use Rattle.model.specs.Graph.{times}
-use Rattle.model.specs.Times.{expectedDeparture, expectedArrival}
+use Rattle.model.specs.Times.{Conditions, expectedDeparture, expectedArrival}
 use Rattle.model.proofs.Tests.{by-bool}
 use Rattle.model.proofs.GraphArea.{length-times}
 use Rattle.model.proofs.Times.{first-starts, departure-own, departure-after, arrival-most}
 use Rattle.timetable.specs.Accepted.{Opened}
-use Rattle.times.specs.Times.{Delays, departsAt, longestTime}
+use Rattle.times.specs.Times.{conditionsIn, Delays, departsAt, longestTime}
 
 -- the own departure stands where it is not before the arrival, or where the trip starts
 pub own-stands : (s : Bool) (own before : ℕ) → ((s ≡ true) × (before ≤ own)) ⊎ (s ≡ false) → own ≡ cond s (max own before) own
@@ -27,13 +27,13 @@ own-stands s own before (inl w) = rw (w .0) (omega (arith, w .1))
 own-stands s own before (inr w) = rw w
 
 -- the departure by the arrival of the connection before
-pub departs-is : (f : List ℕ) (delay : ℕ → ℕ) (c before : ℕ) → ((e : ℕ) → c ≡ suc e → before ≡ expectedArrival f delay e)
-    → departsAt f c (delay c) before ≡ expectedDeparture f delay c
-departs-is f delay zero before h = rw (first-starts f) (sym (departure-own f delay zero (first-starts f)))
-departs-is f delay (suc e) before h =
+pub departs-is : (f : List ℕ) (conditions : Conditions) (c before : ℕ) → ((e : ℕ) → c ≡ suc e → before ≡ expectedArrival f conditions e)
+    → departsAt f c (conditions .delay c) before ≡ expectedDeparture f conditions c
+departs-is f conditions zero before h = rw (first-starts f) (sym (departure-own f conditions zero (first-starts f)))
+departs-is f conditions (suc e) before h =
     ⊎-elim
-    (λ (s : staysAboard f (suc e) ≡ true). rw (s, h e refl) (sym (departure-after f delay e s)))
-    (λ (s : staysAboard f (suc e) ≡ false). rw s (sym (departure-own f delay (suc e) s)))
+    (λ (s : staysAboard f (suc e) ≡ true). rw (s, h e refl) (sym (departure-after f conditions e s)))
+    (λ (s : staysAboard f (suc e) ≡ false). rw s (sym (departure-own f conditions (suc e) s)))
     (by-bool (staysAboard f (suc e)))
 
 -- the file holds each of its connections
@@ -42,10 +42,10 @@ connection-room f s n c o h = rw (o .stops) (room-for f (o .timetable) c (omega 
 
 -- no arrival is above the last minute of a time in force
 pub arrives-by : (f : List ℕ) (s n : ℕ) (delays : List ℕ) → Opened f s n → Delays delays n → (c : ℕ) → c < n
-    → expectedArrival f (λ e. getD delays e 0) c ≤ lastExpected
+    → expectedArrival f (conditionsIn delays) c ≤ lastExpected
 arrives-by f s n delays o d c h =
     let k : c < connections f = omega (arith, o .connections) in
-    omega (arith, o .timetable .within c k, arrival-most f (o .timetable) (λ e. getD delays e 0) mostStanding c (λ e l. d .most e (omega (arith, o .connections))) k)
+    omega (arith, o .timetable .within c k, arrival-most f (o .timetable) (conditionsIn delays) mostStanding c (λ e l. d .most e (omega (arith, o .connections))) k)
 
 -- what the times of connection c ask
 pub times-asked : (f : List ℕ) (s n : ℕ) (delays : List ℕ) (c before : ℕ) → Opened f s n → Delays delays n → c < n → before ≤ longestTime

@@ -8,7 +8,7 @@ use Rattle.timetable.specs.File.{connections, transferTime, scheduledDeparture,
 use Rattle.timetable.specs.File as file
 use Rattle.model.specs.Notices.{noticesLength, mostStanding, areaOf, rowsOf, WellFormed}
 use Rattle.model.specs.Network.{Network, lastExpected}
-use Rattle.model.specs.Times.{networkWith}
+use Rattle.model.specs.Times.{Conditions, networkWith}
 
 -- a delay for each of n connections, none longer than a notice's
 pub record Delays (delays : List ℕ) (n : ℕ) : Type 0 where
@@ -21,9 +21,13 @@ pub record Standing (f notices : List ℕ) : Type 0 where
   pub rows : WellFormed (connections f) (rowsOf notices)
   pub noted : notices ≡ areaOf (rowsOf notices) ++ drop noticesLength notices
 
+-- the conditions of these delays
+abbrev pub conditionsIn : List ℕ → Conditions
+conditionsIn delays = record { delay = λ c. getD delays c 0 }
+
 -- the network of a timetable with these delays
 abbrev pub networkIn : List ℕ → List ℕ → Network
-networkIn f delays = networkWith f (λ c. getD delays c 0)
+networkIn f delays = networkWith f (conditionsIn delays)
 
 -- no scheduled or expected time, and no delay, is above this
 abbrev pub longestTime : ℕ

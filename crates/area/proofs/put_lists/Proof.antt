@@ -33,9 +33,9 @@ part-changes-end c = search needs
 
 put-departures-requires : tie.Need-put-departures-requires
 put-departures-requires c κs =
-    let s = c .before .before .before .before .before .before .before in
+    let s = c .before .before .before .before .before .before in
     let a = s .args in
-    (s .pre .0, s .pre .1, s .pre .2, s .pre .3, lists-room (a .file .now) (a .stops) (a .n) (s .pre .0))
+    (s .pre .0, s .pre .1, s .pre .2, lists-room (a .file .now) (a .stops) (a .n) (s .pre .0))
 
 same-length : tie.Need-same-length
 same-length c = search needs

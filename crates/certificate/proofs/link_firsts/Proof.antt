@@ -7,7 +7,8 @@ use native.Mathlib.Omega.{arith}
 use borrow.Author.Needs.{needs}
 use borrow.Author.Count.{below-more}
 use borrow.Author.Tests.{not-false}
-use Rattle.certificate.specs.Links.{shown, FirstLink, Marks}
+use Rattle.model.specs.Shown.{shown}
+use Rattle.certificate.specs.Links.{FirstLink, Marks}
 use Rattle.certificate.proofs.Telling.{told, denied, told-yes, told-no}
 use Rattle.certificate.proofs.link_firsts.Statement.{statement}
 use Rattle.certificate.proofs.link_firsts.Tie as tie

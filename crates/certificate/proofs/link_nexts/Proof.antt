@@ -7,7 +7,8 @@ use native.Mathlib.Omega.{arith}
 use borrow.Author.Needs.{needs}
 use borrow.Author.Count.{below-more}
 use borrow.Author.Tests.{not-false}
-use Rattle.certificate.specs.Links.{shown, NextLink, Marks, Ends}
+use Rattle.model.specs.Shown.{shown}
+use Rattle.certificate.specs.Links.{NextLink, Marks, Ends}
 use Rattle.certificate.proofs.Telling.{told, denied, told-yes, told-no}
 use Rattle.certificate.proofs.link_nexts.Statement.{statement}
 use Rattle.certificate.proofs.link_nexts.Tie as tie

@@ -6,29 +6,30 @@ use borrow.Author.Needs.{needs}
 use lib.ListN.{length}
 use Rattle.timetable.specs.File.{connections}
 use Rattle.timetable.proofs.Accepted.{room-for-header}
+use Rattle.model.proofs.Least.{scan-none}
 use Rattle.journeys.specs.Search.{Better}
-use Rattle.journeys.proofs.Search.{search-none, search-done}
+use Rattle.journeys.proofs.Search.{search-done}
 use Rattle.journeys.proofs.find_last.Statement.{statement}
 use Rattle.journeys.proofs.find_last.Tie as tie
 
 abbrev Inv-loop : tie.InvT-loop
-Inv-loop file notices graph predecessors stop stops best₀ c₀ best c = (c ≤ length predecessors) × Better file notices predecessors stop c best
+Inv-loop file graph predecessors stop stops best₀ c₀ best c = (c ≤ length predecessors) × Better file graph predecessors stop c best
 
 abbrev μ-loop : tie.MeasureT-loop
-μ-loop file notices graph predecessors stop stops best₀ c₀ best c = length predecessors - c
+μ-loop file graph predecessors stop stops best₀ c₀ best c = length predecessors - c
 
 stops-requires : tie.Need-stops-requires Inv-loop μ-loop
-stops-requires c κs = let s = c .before .before .before .before in room-for-header _ (s .pre .ready .timetable)
+stops-requires c κs = let s = c .before .before .before in room-for-header _ (s .pre .readable .timetable)
 
 cast-stops : tie.Need-cast-stops Inv-loop μ-loop
 cast-stops c = search needs
 
 loop-holds : tie.Need-loop-holds Inv-loop μ-loop
-loop-holds c = (omega arith, search-none _ _ _ _)
+loop-holds c = (omega arith, scan-none _ _)
 
 better-requires : tie.Need-better-requires Inv-loop μ-loop
 better-requires c κs =
-    let s = c .before .before .before .before .before .before .before in
+    let s = c .before .before .before .before .before .before in
     record {
       searched = s .pre;
       counted = c .before .before .stops .ensures;
@@ -47,10 +48,10 @@ loop-again c = (omega arith, c .better .ensures)
 
 returns : tie.Need-returns Inv-loop μ-loop
 returns c =
-    let s = c .before .before .before .before .before .before .before in
+    let s = c .before .before .before .before .before .before in
     let l = c .before .loop in
     let q : l .c ≡ connections (s .args .file .now) = omega (arith, s .pre .long) in
-    search-done _ _ _ _ _ _ (s .pre) (rw q at (l .inv .1))
+    search-done _ _ _ _ _ (s .pre) (rw q at (l .inv .1))
 
 pub find-last-spec : {M : Type 1} → statement M
 find-last-spec =

@@ -10,13 +10,13 @@ use Rattle.journeys.proofs.read_journey.Tie as tie
 
 returns : tie.Need-returns
 returns c =
-    let s = c .before .before .before .before .before .before in
-    read-here _ _ _ _ _ _ _ _ (s .pre) (c .if1 .taken)
+    let s = c .before .before .before .before .before in
+    read-here _ _ _ _ _ _ _ (s .pre) (c .if1 .taken)
 
 connections-requires : tie.Need-connections-requires
 connections-requires c κs =
-    let s = c .before .before .before .before .before .before in
-    room-for-header _ (s .pre .ready .timetable)
+    let s = c .before .before .before .before .before in
+    room-for-header _ (s .pre .readable .timetable)
 
 cast-n : tie.Need-cast-n
 cast-n c = search needs
@@ -29,27 +29,27 @@ part-predecessors-start c = search needs
 
 part-predecessors-end : tie.Need-part-predecessors-end
 part-predecessors-end c =
-    let s = c .before .before .before .before .before .before .before in
-    omega (arith, part-room _ _ _ _ _ _ (s .args .to) _ (s .pre) _ (c .connections .ensures))
+    let s = c .before .before .before .before .before .before in
+    omega (arith, part-room _ _ _ _ _ (s .args .to) _ (s .pre) _ (c .connections .ensures))
 
 find-last-requires : tie.Need-find-last-requires
 find-last-requires c κs =
-    let s = c .before .before .before .before .before .before .before .before in
-    searched _ _ _ _ _ _ (s .args .to) _ (s .pre) _ (c .before .connections .ensures)
+    let s = c .before .before .before .before .before .before .before in
+    searched _ _ _ _ _ (s .args .to) _ (s .pre) _ (c .before .connections .ensures)
 
 returns-2 : tie.Need-returns-2
 returns-2 c =
     let n = c .before .before .before in
-    let s = n .before .before .before .before .before .before .before in
+    let s = n .before .before .before .before .before .before in
     let q : c .before .find-last .result ≡ none = omega arith in
-    read-none _ _ _ _ _ _ _ _ (s .pre) _ (n .connections .ensures) (n .before .if1 .left) _ (c .before .find-last .ensures) q
+    read-none _ _ _ _ _ _ _ (s .pre) _ (n .connections .ensures) (n .before .if1 .left) _ (c .before .find-last .ensures) q
 
 write-journey-requires : tie.Need-write-journey-requires
 write-journey-requires c κs =
     let l = c .before .before in
     let n = l .before .before in
-    let s = n .before .before .before .before .before .before .before in
-    to-write _ _ _ _ _ _ _ _ (s .pre) _ (n .connections .ensures) (n .before .if1 .left) _ (l .find-last .ensures) (c .before .if2 .left)
+    let s = n .before .before .before .before .before .before in
+    to-write _ _ _ _ _ _ _ (s .pre) _ (n .connections .ensures) (n .before .if1 .left) _ (l .find-last .ensures) (c .before .if2 .left)
 
 cast-arrival : tie.Need-cast-arrival
 cast-arrival c = search needs
@@ -59,17 +59,17 @@ arrival-requires c κs =
     let i = c .before .before .before .before in
     let l = i .before in
     let n = l .before .before in
-    let s = n .before .before .before .before .before .before .before in
-    last-room _ _ _ _ _ _ _ _ (s .pre) _ (n .connections .ensures) (n .before .if1 .left) _ (l .find-last .ensures) (i .if2 .left)
+    let s = n .before .before .before .before .before .before in
+    last-room _ _ _ _ _ _ _ (s .pre) _ (n .connections .ensures) (n .before .if1 .left) _ (l .find-last .ensures) (i .if2 .left)
 
-cast-t15 : tie.Need-cast-t15
-cast-t15 c =
+cast-t14 : tie.Need-cast-t14
+cast-t14 c =
     let j = c .before .before .before in
     let i = j .before .before in
     let l = i .before in
     let n = l .before .before in
-    let s = n .before .before .before .before .before .before .before in
-    omega (arith, count-fits _ _ _ _ _ _ _ _ (s .pre) _ (n .connections .ensures) (n .before .if1 .left) _ (l .find-last .ensures) (i .if2 .left) _ (j .write-journey .ensures .0))
+    let s = n .before .before .before .before .before .before in
+    omega (arith, count-fits _ _ _ _ _ _ _ (s .pre) _ (n .connections .ensures) (n .before .if1 .left) _ (l .find-last .ensures) (i .if2 .left) _ (j .write-journey .ensures .0))
 
 same-length : tie.Need-same-length
 same-length c = search needs
@@ -80,8 +80,8 @@ returns-3 c =
     let i = j .before .before in
     let l = i .before in
     let n = l .before .before in
-    let s = n .before .before .before .before .before .before .before in
-    read-found _ _ _ _ _ _ _ _ (s .pre) _ (n .connections .ensures) (n .before .if1 .left) _ (l .find-last .ensures) (i .if2 .left) _ (j .write-journey .ensures .0) _ _ (c .arrival .ensures) (j .write-journey .ensures .1)
+    let s = n .before .before .before .before .before .before in
+    read-found _ _ _ _ _ _ _ (s .pre) _ (n .connections .ensures) (n .before .if1 .left) _ (l .find-last .ensures) (i .if2 .left) _ (j .write-journey .ensures .0) _ _ (c .arrival .ensures) (j .write-journey .ensures .1)
 
 pub read-journey-spec : {M : Type 1} → statement M
 read-journey-spec =
@@ -98,6 +98,6 @@ read-journey-spec =
     write-journey-requires
     cast-arrival
     arrival-requires
-    cast-t15
+    cast-t14
     same-length
     returns-3)

@@ -6,7 +6,7 @@ use borrow.Author.Needs.{needs}
 use lib.ListN.{length}
 use Rattle.model.specs.Network.{Network}
 use Rattle.model.specs.Journeys.{canBeFirst}
-use Rattle.model.specs.Ready.{networkBy}
+use Rattle.model.specs.Shown.{shown}
 use Rattle.predecessors.proofs.Steps.{settle-first, settle-aboard, settle-lower, settle-unreached, settle-alone}
 use Rattle.predecessors.proofs.Read.{has-entry, has-connection, has-before, aboard-read}
 use Rattle.predecessors.proofs.settle.Statement.{statement}
@@ -14,29 +14,29 @@ use Rattle.predecessors.proofs.settle.Tie as tie
 
 -- d has an entry
 entry : (s : tie.Start) → s .args .d < length (s .args .work .now)
-entry s = has-entry _ _ _ _ _ (s .pre .0) (s .args .work .now) (s .pre .1)
+entry s = has-entry _ _ _ _ (s .pre .0) (s .args .work .now) (s .pre .1)
 
 can-be-first-requires : tie.Need-can-be-first-requires
-can-be-first-requires c κs = c .before .before .before .before .pre .0
+can-be-first-requires c κs = c .before .before .before .pre .0
 
 returns : tie.Need-returns
 returns c =
     let k = c .before in
-    settle-first _ _ _ _ _ (entry (k .before .before .before .before .before)) (sym (k .can-be-first .ensures) ∙ c .if1 .taken)
+    settle-first _ _ _ _ _ (entry (k .before .before .before .before)) (sym (k .can-be-first .ensures) ∙ c .if1 .taken)
 
 mul-collected : tie.Need-mul-collected
 mul-collected c = search needs
 
 shared-slice-read-collected : tie.Need-shared-slice-read-collected
-shared-slice-read-collected c = entry (c .before .before .before .before .before .before .before)
+shared-slice-read-collected c = entry (c .before .before .before .before .before .before)
 
 stays-aboard-requires : tie.Need-stays-aboard-requires
-stays-aboard-requires c κs = has-connection _ _ _ _ _ (c .before .before .before .before .before .before .before .pre .0)
+stays-aboard-requires c κs = has-connection _ _ _ _ (c .before .before .before .before .before .before .pre .0)
 
 sub-if3 : tie.Need-sub-if3
 sub-if3 c =
     let k = c .before in
-    has-before _ _ _ _ _ (k .before .before .before .before .before .before .before .before .pre .0) (k .stays-aboard .ensures) (c .if2 .taken)
+    has-before _ _ _ _ (k .before .before .before .before .before .before .before .pre .0) (k .stays-aboard .ensures) (c .if2 .taken)
 
 mul-if3 : tie.Need-mul-if3
 mul-if3 c = search needs
@@ -50,17 +50,17 @@ sub-before c = sub-if3 (c .before .before)
 -- where it has been asked whether d stays aboard
 module _ (c : tie.After-stays-aboard) where
   abbrev start : tie.Start
-  start = c .before .before .before .before .before .before .before .before
+  start = c .before .before .before .before .before .before .before
 
   abbrev net : Network
-  net = networkBy (start .args .file .now) (start .args .notices .now)
+  net = shown (start .args .file .now) (start .args .graph .now)
 
   -- d cannot be first
   later : canBeFirst net (start .args .from) (start .args .time) (start .args .d) ≡ false
   later = sym (c .before .before .before .can-be-first .ensures) ∙ c .before .before .if1 .left
 
   aboard : {p : Bool} → c .stays-aboard .result ≡ p → net .staysAboard (start .args .d) ≡ p
-  aboard q = aboard-read _ _ _ _ _ (start .pre .0) (c .stays-aboard .ensures) q
+  aboard q = aboard-read _ _ _ _ (start .pre .0) (c .stays-aboard .ensures) q
 
 returns-2 : tie.Need-returns-2
 returns-2 c =

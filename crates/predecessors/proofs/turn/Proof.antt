@@ -8,8 +8,8 @@ use Rattle.predecessors.proofs.turn.Tie as tie
 visit-requires : tie.Need-visit-requires
 visit-requires c κs =
     let k = c .before in
-    let p = k .before .before .before .before .before .pre in
-    (record { ready = p .0 .ready; count = p .0 .count; below = p .0 .held (k .if1 .taken) }, p .1)
+    let p = k .before .before .before .before .pre in
+    (record { readable = p .0 .readable; count = p .0 .count; below = p .0 .held (k .if1 .taken) }, p .1)
 
 same-length : tie.Need-same-length
 same-length c = search needs

@@ -4,7 +4,7 @@ use Prim.Native.Nat.{_<_}
 use borrow.Author.Needs.{needs}
 use lib.ListN.{length, set}
 use Rattle.model.specs.Network.{Network}
-use Rattle.model.specs.Ready.{networkBy}
+use Rattle.model.specs.Shown.{shown}
 use Rattle.predecessors.specs.Visits.{passed}
 use Rattle.predecessors.proofs.Steps.{passed-is, visit-reached, visit-unreached, length-visited}
 use Rattle.predecessors.proofs.Read.{has-entry, has-waiting, has-transfer, waiting-is, transfer-is}
@@ -13,21 +13,21 @@ use Rattle.predecessors.proofs.visit.Tie as tie
 
 -- d has an entry
 entry : (s : tie.Start) → s .args .d < length (s .args .work .now)
-entry s = has-entry _ _ _ _ _ (s .pre .0) (s .args .work .now) (s .pre .1)
+entry s = has-entry _ _ _ _ (s .pre .0) (s .args .work .now) (s .pre .1)
 
 mul-collected : tie.Need-mul-collected
 mul-collected c = search needs
 
 slice-read-collected : tie.Need-slice-read-collected
-slice-read-collected c = entry (c .before .before .before .before .before)
+slice-read-collected c = entry (c .before .before .before .before)
 
 settle-requires : tie.Need-settle-requires
-settle-requires c κs = c .before .before .before .before .before .before .pre
+settle-requires c κs = c .before .before .before .before .before .pre
 
 waiting-requires : tie.Need-waiting-requires
 waiting-requires c κs =
-    let s = c .before .before .before .before .before .before .before in
-    has-waiting _ _ _ _ _ (s .pre .0) _ (s .pre .1)
+    let s = c .before .before .before .before .before .before in
+    has-waiting _ _ _ _ (s .pre .0) _ (s .pre .1)
 
 offer-requires : tie.Need-offer-requires
 offer-requires c κs = search needs
@@ -44,22 +44,22 @@ module _ (c : tie.After-slice-known3) where
   settled = c .before .before .before .before .before
 
   abbrev start : tie.Start
-  start = settled .before .before .before .before .before .before .before
+  start = settled .before .before .before .before .before .before
 
   abbrev net : Network
-  net = networkBy (start .args .file .now) (start .args .notices .now)
+  net = shown (start .args .file .now) (start .args .graph .now)
 
   entered : set (c .before .before .offer .last .1 .1 .0) (start .args .d) (settled .settle .result) ≡ passed net (start .args .from) (start .args .time) (start .args .work .now) (start .args .d)
   entered =
       passed-is _ _ _ _ _ (entry start) _ _ _
-      (waiting-is _ _ _ _ _ (start .pre .0) _ (start .pre .1) _ (c .before .before .before .before .waiting .ensures))
+      (waiting-is _ _ _ _ (start .pre .0) _ (start .pre .1) _ (c .before .before .before .before .waiting .ensures))
       (settled .settle .ensures)
       (c .before .before .offer .ensures)
 
 transfer-requires : tie.Need-transfer-requires
 transfer-requires c κs =
     let s = start (c .before) in
-    has-transfer _ _ _ _ _ (s .pre .0) _ (s .pre .1)
+    has-transfer _ _ _ _ (s .pre .0) _ (s .pre .1)
 
 offer-requires-2 : tie.Need-offer-requires-2
 offer-requires-2 c κs = search needs
@@ -69,7 +69,7 @@ returns c =
     let t = c .before .before .before .before in
     let k = t .before .before in
     let s = start k in
-    visit-reached _ _ _ _ _ _ _ _ _ (transfer-is _ _ _ _ _ (s .pre .0) _ (s .pre .1) _ (t .transfer .ensures)) (settled k .settle .ensures) (entered k) (t .before .if1 .taken) (c .before .before .offer2 .ensures)
+    visit-reached _ _ _ _ _ _ _ _ _ (transfer-is _ _ _ _ (s .pre .0) _ (s .pre .1) _ (t .transfer .ensures)) (settled k .settle .ensures) (entered k) (t .before .if1 .taken) (c .before .before .offer2 .ensures)
 
 same-length : tie.Need-same-length
 same-length c = ap length (returns c) ∙ length-visited _ _ _ _ _

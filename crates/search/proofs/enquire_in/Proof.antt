@@ -1,7 +1,7 @@
 -- `search::enquire_in` meets its contract. Assumes nothing.
 use mathlib.Core.Path.{sym, _∙_}
 use borrow.Author.Needs.{needs}
-use Rattle.search.proofs.Enquiries.{searchable}
+use Rattle.search.proofs.Enquiries.{searchable, searched-by}
 use Rattle.search.proofs.enquire_in.Statement.{statement}
 use Rattle.search.proofs.enquire_in.Tie as tie
 
@@ -55,7 +55,8 @@ returns-3 c =
     let e = q .before in
     let v = e .before .before in
     let s = v .before .before .before .before .before .before in
-    rw (← v .contents-verdict .ensures, e .enum-told .given .1, ← s .pre .stop-count, ← q .request-verdict .ensures, m .enum-told2 .given .1) (j .find-journey .ensures)
+    rw (← v .contents-verdict .ensures, e .enum-told .given .1, ← s .pre .stop-count, ← q .request-verdict .ensures, m .enum-told2 .given .1)
+    (j .find-journey .ensures ∙ searched-by _ _ _ _ _ _ (s .pre) (sym (v .contents-verdict .ensures) ∙ e .enum-told .given .1) _ _ _)
 
 pub enquire-in-spec : {M : Type 1} → statement M
 enquire-in-spec =

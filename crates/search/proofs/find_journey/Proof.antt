@@ -9,10 +9,10 @@ use Rattle.search.proofs.find_journey.Tie as tie
 
 -- the function's entry
 abbrev start : tie.After-connections → tie.Start
-start c = c .before .before .before .before .before .before
+start c = c .before .before .before .before .before
 
 connections-requires : tie.Need-connections-requires
-connections-requires c κs = room-for-header _ (c .before .before .before .before .before .pre .ready .timetable)
+connections-requires c κs = room-for-header _ (c .before .before .before .before .pre .readable .timetable)
 
 cast-n : tie.Need-cast-n
 cast-n c = search needs
@@ -23,7 +23,7 @@ slice-aggregate-order-departures c = search needs
 order-departures-requires : tie.Need-order-departures-requires
 order-departures-requires c κs =
     let k = c .before in
-    let p = sortable _ _ _ (start k .pre .ready) _ (k .connections .ensures) in
+    let p = sortable _ _ (start k .pre .readable) _ (k .connections .ensures) in
     (p .0, p .1, p .2, omega (arith, p .0))
 
 slice-aggregate-fill-predecessors : tie.Need-slice-aggregate-fill-predecessors
@@ -33,13 +33,13 @@ fill-predecessors-requires : tie.Need-fill-predecessors-requires
 fill-predecessors-requires c κs =
     let o = c .before .before .before in
     let k = o .before .before in
-    (sweepable _ _ _ (start k .pre .ready) _ (k .connections .ensures) _ (o .order-departures .ensures), start k .pre .work-room)
+    (sweepable _ _ (start k .pre .readable) _ (k .connections .ensures) _ (o .order-departures .ensures), start k .pre .work-room)
 
 read-journey-requires : tie.Need-read-journey-requires
 read-journey-requires c κs =
     let k = c .before .before .before .before in
     let s = start (k .before .before .before .before .before .before) in
-    reading _ _ _ _ _ _ _ (s .pre) _ (k .fill-predecessors .ensures)
+    reading _ _ _ _ _ _ (s .pre) _ (k .fill-predecessors .ensures)
 
 same-length : tie.Need-same-length
 same-length c = search needs
@@ -52,7 +52,7 @@ returns c =
     let r = c .before .before in
     let k = r .before .before .before .before .before in
     let s = start (k .before .before .before .before .before .before) in
-    r .read-journey .ensures ∙ searched-read _ _ _ _ _ _ _ (s .pre) _ (k .fill-predecessors .ensures) _
+    r .read-journey .ensures ∙ searched-read _ _ _ _ _ _ (s .pre) _ (k .fill-predecessors .ensures) _
 
 pub find-journey-spec : {M : Type 1} → statement M
 find-journey-spec =

@@ -2,7 +2,7 @@
 use mathlib.Core.Path.{sym, _∙_}
 use borrow.Author.Needs.{needs}
 use Rattle.search.proofs.Signed.{read-back}
-use Rattle.search.proofs.Margins.{changing}
+use Rattle.search.proofs.Margins.{changing, margin-by-notices}
 use Rattle.search.proofs.margin_by.Statement.{statement}
 use Rattle.search.proofs.margin_by.Tie as tie
 
@@ -46,7 +46,10 @@ returns-3 c =
     let m = c .before in
     let k = m .before .before in
     let e = k .before in
-    rw (← e .before .before .areas-verdict .ensures, e .enum-told .given .1, ← k .change-verdict .ensures, m .enum-told2 .given .1, read-back _ (c .change-minutes .ok), c .change-minutes .ensures)
+    let a = e .before .before in
+    let s = a .before .before .before .before in
+    let q = margin-by-notices _ _ _ _ _ _ _ (s .pre) (sym (a .areas-verdict .ensures) ∙ e .enum-told .given .1) (sym (k .change-verdict .ensures) ∙ m .enum-told2 .given .1) in
+    rw (← a .areas-verdict .ensures, e .enum-told .given .1, ← k .change-verdict .ensures, m .enum-told2 .given .1, ← q, read-back _ (c .change-minutes .ok), c .change-minutes .ensures)
 
 pub margin-by-spec : {M : Type 1} → statement M
 margin-by-spec =

@@ -7,9 +7,9 @@ use native.Mathlib.Omega.{arith}
 use borrow.Author.Needs.{needs}
 use lib.ListN.{length, getD, drop, length-set}
 use Rattle.model.specs.Graph.{times}
-use Rattle.model.specs.Times.{travelTime, expectedDeparture, expectedArrival}
+use Rattle.model.specs.Times.{Conditions, travelTime, expectedDeparture, expectedArrival}
 use Rattle.model.proofs.Times.{travel-kept}
-use Rattle.times.specs.Times.{networkIn, departsAt, longestTime}
+use Rattle.times.specs.Times.{conditionsIn, networkIn, departsAt, longestTime}
 use Rattle.times.proofs.Turns.{departs-is, arrives-by, times-asked, times-more, times-done}
 use Rattle.times.proofs.fill_times.Statement.{statement}
 use Rattle.times.proofs.fill_times.Tie as tie
@@ -17,7 +17,7 @@ use Rattle.times.proofs.fill_times.Tie as tie
 abbrev Inv-loop : tie.InvT-loop
 Inv-loop file stops n delays area₀ before₀ c₀ area before c =
     (c ≤ n) × (length area ≡ 2 * n) × (area ≡ times (networkIn file delays) c ++ drop (2 * c) area₀)
-    × (before ≤ longestTime) × ((e : ℕ) → c ≡ suc e → before ≡ expectedArrival file (λ k. getD delays k 0) e)
+    × (before ≤ longestTime) × ((e : ℕ) → c ≡ suc e → before ≡ expectedArrival file (conditionsIn delays) e)
 
 abbrev μ-loop : tie.MeasureT-loop
 μ-loop file stops n delays area₀ before₀ c₀ area before c = n - c
@@ -70,13 +70,13 @@ loop-again c =
     let a = c .before .before .before in
     let s = a .before .before .before .before in
     let f = s .args .file .now in
-    let delay : ℕ → ℕ = λ k. getD (s .args .delays .now) k 0 in
+    let conditions : Conditions = conditionsIn (s .args .delays .now) in
     let i : ℕ = a .loop .c in
     let l : i < s .args .n = c .before .before .loop-test .taken in
-    let d : c .times-at .result .departure ≡ expectedDeparture f delay i =
-    _∙_ {b = departsAt f i (delay i) (a .loop .before)} (c .times-at .ensures .0) (departs-is f delay i (a .loop .before) (a .loop .inv .4)) in
-    let v : c .times-at .result .arrival ≡ expectedArrival f delay i =
-    _∙_ {b = c .times-at .result .departure + travelTime f i} (c .times-at .ensures .1) (rw (d, travel-kept f delay i)) in (
+    let d : c .times-at .result .departure ≡ expectedDeparture f conditions i =
+    _∙_ {b = departsAt f i (conditions .delay i) (a .loop .before)} (c .times-at .ensures .0) (departs-is f conditions i (a .loop .before) (a .loop .inv .4)) in
+    let v : c .times-at .result .arrival ≡ expectedArrival f conditions i =
+    _∙_ {b = c .times-at .result .departure + travelTime f i} (c .times-at .ensures .1) (rw (d, travel-kept f conditions i)) in (
       omega arith,
       simp length-set (a .loop .inv .1),
       times-more (networkIn f (s .args .delays .now)) i _ _ (a .loop .area) (s .args .area .now) (a .loop .inv .2) (omega (arith, s .pre .2)) d v,

@@ -1,0 +1,212 @@
+-- A graph area that can be read without the notices: its entries; and that what it shows is the network of the notices that
+-- stand, wherever it matters. Assumes nothing.
+use mathlib.Core.Path.{_≡_, refl, sym, _∙_, ap}
+use mathlib.Core.Logic.{⊎-elim}
+use mathlib.Core.Bool.{Bool, true, false, _&&_}
+use mathlib.Core.List.{List, _++_, append-assoc}
+use Prim.Native.Nat.{ℕ, zero, suc, _+_, _*_, _<_, _≤_}
+use native.Mathlib.Omega.{arith}
+use borrow.Author.Tests.{ne-eqb, eqb-false}
+use lib.ListN.{length, take, drop, length-append}
+use lib.Seq.{take-suc}
+use Rattle.timetable.specs.File.{stops, connections}
+use Rattle.timetable.specs.declared.Verdict.the-variants.{Passed}
+use Rattle.model.specs.Least.{none, leastBelow}
+use Rattle.model.specs.Network.{Network, Sound}
+use Rattle.model.specs.Times.{networkOf}
+use Rattle.model.specs.Graph.{waiting, transfer, times, graphOf, departureIn, arrivalIn, waitingIn, transferIn}
+use Rattle.model.specs.Journeys.{canBeFirst, canFollow, arrives}
+use Rattle.model.specs.Predecessors.{reachedIn, choose, rounds, predecessors, arriving, lastTo, nowhere, journeyIn}
+use Rattle.model.specs.Margin.{marginOf}
+use Rattle.model.specs.Operations.{graphLength, answered, searched}
+use Rattle.model.specs.Ready.{networkBy, Ready}
+use Rattle.model.specs.Shown.{shown, Readable}
+use Rattle.model.proofs.Tests.{by-eq}
+use Rattle.model.proofs.Tab.{tab-same}
+use Rattle.model.proofs.Least.{least-is, least-same}
+use Rattle.model.proofs.Boards.{Agree, waiting-list-same, transfer-list-same, first-list-same}
+use Rattle.model.proofs.GraphArea.{length-graph, waiting-within, transfer-within}
+use Rattle.model.proofs.Rounds.{numbered}
+use Rattle.model.proofs.Journeys.{follow-begins, journey-here, journey-there}
+use Rattle.model.proofs.Ready.{sound, departure-read, arrival-read}
+
+-- the front of an area is the times that it shows
+pub times-in : (f graph : List ℕ) (n : ℕ) → 2 * n ≤ length graph → take (2 * n) graph ≡ times (shown f graph) n
+unfolding times
+times-in f graph zero h = refl
+times-in f graph (suc n) h =
+    let q : 2 * suc n ≡ suc (suc (2 * n)) = omega arith in
+    let e : 2 * n + 1 ≡ suc (2 * n) = omega arith in
+    rw (q, take-suc graph (suc (2 * n)) 0 (omega arith), take-suc graph (2 * n) 0 (omega arith), times-in f graph n (omega arith), e) (simp append-assoc)
+
+-- the entries of an area that can be read
+module _ (f graph : List ℕ) (r : Readable f graph) where
+  abbrev net : Network
+  net = shown f graph
+
+  abbrev rest : List ℕ
+  rest = drop (graphLength f) graph
+
+  pub readable-room : graphLength f ≤ length graph
+  readable-room =
+      let l : length (graphOf net ++ rest) ≡ length (graphOf net) + length rest = length-append (graphOf net) rest in
+      omega (arith, ap length (r .drawn), length-graph net)
+
+  module _ (c : ℕ) (h : c < connections f) where
+    pub waiting-shown : waitingIn graph (connections f) c ≡ waiting (shown f graph) c
+    waiting-shown = ap (λ (g : List ℕ). waitingIn g (connections f) c) (r .drawn) ∙ waiting-within net rest c h
+
+    pub transfer-shown : transferIn graph (connections f) c ≡ transfer (shown f graph) c
+    transfer-shown = ap (λ (g : List ℕ). transferIn g (connections f) c) (r .drawn) ∙ transfer-within net rest c h
+
+-- an area with the expected times shows, wherever it matters, the network of the notices that stand
+module _ (f notices graph : List ℕ) (sound-by : Sound (networkBy f notices))
+    (departs : (c : ℕ) → c < connections f → departureIn graph c ≡ networkBy f notices .departure c)
+    (comes : (c : ℕ) → c < connections f → arrivalIn graph c ≡ networkBy f notices .arrival c) where
+  abbrev S : Network
+  S = shown f graph
+
+  abbrev N : Network
+  N = networkBy f notices
+
+  few : connections f ≤ none
+  unfolding networkOf
+  few = numbered sound-by
+
+  agree : Agree S N
+  unfolding networkOf
+  agree =
+      record {
+        stops = refl;
+        connections = refl;
+        from = λ c h. refl;
+        to = λ c h. refl;
+        departure = departs;
+        ready = λ c b h. rw (comes c h);
+      }
+
+  pub times-shown : (n : ℕ) → n ≤ connections f → times (shown f graph) n ≡ times (networkBy f notices) n
+  unfolding times
+  times-shown zero h = refl
+  times-shown (suc n) h = rw (times-shown n (omega arith), departs n (omega arith), comes n (omega arith))
+
+  -- the graph is the same
+  pub graph-shown : graphOf (shown f graph) ≡ graphOf (networkBy f notices)
+  unfolding graphOf networkOf
+  graph-shown =
+      rw (times-shown (connections f) (omega arith), waiting-list-same S N few agree, transfer-list-same S N few agree, first-list-same S N few agree)
+
+  pub sound-shown : Sound (shown f graph)
+  unfolding networkOf
+  sound-shown =
+      record {
+        few-stops = sound-by .few-stops;
+        few = sound-by .few;
+        from-stop = sound-by .from-stop;
+        to-stop = sound-by .to-stop;
+        transfers = sound-by .transfers;
+        forward = λ c h. omega (arith, departs c h, comes c h, sound-by .forward c h);
+        early = λ c h. omega (arith, comes c h, sound-by .early c h);
+        starts = sound-by .starts;
+        joins = sound-by .joins;
+        keeps = λ c h q. omega (arith, comes c (omega arith), departs (suc c) h, sound-by .keeps c h q);
+      }
+
+  -- a step of a journey is the same
+  first-shown : (a t c : ℕ) → c < connections f → canBeFirst S a t c ≡ canBeFirst N a t c
+  unfolding canBeFirst networkOf
+  first-shown a t c h = rw (departs c h)
+
+  follow-shown : (e c : ℕ) → e < connections f → c < connections f → canFollow S e c ≡ canFollow N e c
+  unfolding canFollow networkOf
+  follow-shown e c k h = rw (departs c h, comes e k)
+
+  choose-shown : (a t : ℕ) (w : List ℕ) (c : ℕ) → c < connections f → choose S a t w c ≡ choose N a t w c
+  unfolding choose networkOf
+  choose-shown a t w c h =
+      let l : leastBelow (λ e. reachedIn w e && canFollow S e c) (λ e. 0) (connections f) ≡ leastBelow (λ e. reachedIn w e && canFollow N e c) (λ e. 0) (connections f) =
+      least-same _ _ (λ e. 0) (λ e. 0) (connections f) few (λ e k. ap (λ (p : Bool). reachedIn w e && p) (follow-shown e c k h)) (λ e k. refl) in
+      rw (first-shown a t c h, l)
+
+  rounds-shown : (a t k : ℕ) → rounds S a t k ≡ rounds N a t k
+  unfolding rounds networkOf
+  rounds-shown a t zero = refl
+  rounds-shown a t (suc k) =
+      rw (rounds-shown a t k) (tab-same _ _ (connections f) (connections f) refl (choose-shown a t (rounds N a t k)))
+
+  -- so are the predecessors
+  predecessors-shown : (a t : ℕ) → predecessors S a t ≡ predecessors N a t
+  unfolding predecessors networkOf
+  predecessors-shown a t = rounds-shown a t (connections f)
+
+  -- so is the journey that is read out of them
+  module _ (a b t : ℕ) (w : List ℕ) where
+    last-shown : lastTo S w b ≡ lastTo N w b
+    unfolding lastTo arriving networkOf
+    last-shown = least-same _ _ (S .arrival) (N .arrival) (connections f) few (λ e l. refl) comes
+
+    nowhere-shown : nowhere S w a b ≡ nowhere N w a b
+    unfolding nowhere
+    nowhere-shown = rw last-shown
+
+    journey-shown : journeyIn S w a b ≡ journeyIn N w a b
+    unfolding networkOf
+    journey-shown =
+        ⊎-elim
+        (λ q. journey-here S w a b q ∙ sym (journey-here N w a b q))
+        (λ u. journey-there S w a b u ∙ rw last-shown (sym (journey-there N w a b u)))
+        (by-eq a b)
+
+  arrives-shown : (a b t : ℕ) → nowhere N (predecessors N a t) a b ≡ false
+      → arrives S t (journeyIn N (predecessors N a t) a b) ≡ arrives N t (journeyIn N (predecessors N a t) a b)
+  unfolding nowhere lastTo networkOf
+  arrives-shown a b t e =
+      let W : List ℕ = predecessors N a t in
+      ⊎-elim
+      (λ q. rw (journey-here N W a b q) refl)
+      (λ u.
+      let m : lastTo N W b ≡ none → ⊥ = eqb-false _ _ (rw (ne-eqb a b u) at e) in
+      let l : lastTo N W b < connections f =
+      ⊎-elim (λ x. absurd (m (x .0))) (λ x. x .below) (least-is (arriving N W b) (N .arrival) (connections f) few) in
+      let g = follow-begins W (connections f) (lastTo N W b) (omega (arith, l)) in
+      rw (journey-there N W a b u, g .1) (comes (lastTo N W b) l))
+      (by-eq a b)
+
+  -- so is what an enquiry answers
+  searched-same : (a b t : ℕ) (work journey : List ℕ) → searched Passed S a b t work journey ≡ searched Passed N a b t work journey
+  unfolding networkOf
+  searched-same a b t work journey =
+      let W : List ℕ = predecessors N a t in
+      rw (predecessors-shown a t, nowhere-shown a b t W, journey-shown a b t W) (go (nowhere N W a b) (arrives-shown a b t))
+    where
+      go : (p : Bool) → (p ≡ false → arrives S t (journeyIn N (predecessors N a t) a b) ≡ arrives N t (journeyIn N (predecessors N a t) a b))
+          → answered p S t (journeyIn N (predecessors N a t) a b) (predecessors N a t ++ drop (connections f) work) journey
+          ≡ answered p N t (journeyIn N (predecessors N a t) a b) (predecessors N a t ++ drop (connections f) work) journey
+      go true h = refl
+      go false h = rw (h refl)
+
+-- areas that are ready
+module _ (f notices graph : List ℕ) (r : Ready f notices graph) where
+  abbrev departs : (c : ℕ) → c < connections f → departureIn graph c ≡ networkBy f notices .departure c
+  departs = departure-read f notices graph r
+
+  abbrev comes : (c : ℕ) → c < connections f → arrivalIn graph c ≡ networkBy f notices .arrival c
+  comes = arrival-read f notices graph r
+
+  -- can be read without the notices
+  pub readable : Readable f graph
+  readable =
+      record {
+        timetable = r .timetable;
+        sound = sound-shown f notices graph (sound f notices graph r) departs comes;
+        drawn = r .drawn ∙ ap (λ (g : List ℕ). g ++ drop (graphLength f) graph) (sym (graph-shown f notices graph (sound f notices graph r) departs comes));
+      }
+
+  -- an enquiry answers the same by what they show
+  pub searched-shown : (a b t : ℕ) (work journey : List ℕ) → searched Passed (shown f graph) a b t work journey ≡ searched Passed (networkBy f notices) a b t work journey
+  searched-shown = searched-same f notices graph (sound f notices graph r) departs comes
+
+  -- and so does a margin
+  pub margin-shown : (c d : ℕ) → c < connections f → d < connections f → marginOf (shown f graph) c d ≡ marginOf (networkBy f notices) c d
+  unfolding marginOf networkOf
+  margin-shown c d h k = rw (departs d k, comes c h)
