@@ -17,8 +17,8 @@ demo:
 lib:
 	rt staticlib panel
 
-# Microseconds beside the independent Rust implementation; instructions too where valgrind is installed, drawn into
-# target/instructions.svg.
+# Microseconds beside the independent Rust implementation, with one timetable and with sixteen in turn; instructions too where
+# valgrind is installed, drawn into target/instructions.svg.
 bench: lib
 	$(COMPARE) --bin bench
 	@if command -v valgrind >/dev/null; then \

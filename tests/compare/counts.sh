@@ -9,9 +9,11 @@ export GLIBC_TUNABLES=glibc.cpu.x86_rep_stosb_threshold=100000000:glibc.cpu.x86_
 notices=$1
 shift
 sizes=${*:-125 250 500 1000 2000}
+bench=target/compare/release/bench
+operations=$($bench operations)
 
 run() {
-    valgrind --tool=callgrind --callgrind-out-file=/dev/null target/compare/release/bench one "$1" "$c" "$notices" "$side" "$2" 2>&1 |
+    valgrind --tool=callgrind --callgrind-out-file=/dev/null $bench one "$1" "$c" "$notices" "$side" "$2" 2>&1 |
         grep -oP 'Collected : \K\d+'
 }
 
@@ -25,7 +27,7 @@ cost() {
 for c in $sizes; do
     for side in library rust; do
         restore=$(cost restore)
-        for op in check build post withdraw enquire margin; do
+        for op in $operations; do
             n=$(cost "$op")
             case $op in post | withdraw) n=$((n - restore)) ;; esac
             echo "$c $notices $side $op $n"

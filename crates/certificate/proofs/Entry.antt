@@ -2,110 +2,89 @@
 use mathlib.Core.Path.{_≡_, sym, _∙_}
 use mathlib.Core.Bool.{false}
 use mathlib.Core.List.{List}
-use Prim.Native.Nat.{ℕ, _+_, _<_, _≤_}
+use Prim.Native.Nat.{ℕ, _<_, _≤_}
 use native.Mathlib.Omega.{arith}
 use lib.Dec.{leb}
 use lib.ListN.{length, getD}
-use Rattle.timetable.specs.File.{connections, from, to, transferTime}
-use Rattle.timetable.specs.Room.{HasStop}
-use Rattle.timetable.proofs.Accepted.{room-for-stop}
+use Rattle.timetable.specs.File.{to}
 use Rattle.model.specs.Least.{none}
-use Rattle.model.specs.Graph.{ready, departureIn, arrivalIn, transferIn}
+use Rattle.model.specs.Graph.{departureIn, transferIn}
 use Rattle.model.specs.Shown.{shown}
-use Rattle.certificate.specs.Links.{changeOf, Ends, ChangeLink, Tells}
+use Rattle.entries.specs.Timed.{Timed, boardIn, readyIn}
+use Rattle.entries.proofs.Opened.{to-below}
+use Rattle.certificate.specs.Links.{changeOf, Lasts, ChangeLink}
 use Rattle.certificate.specs.Links.ChangeLink.{nobody, leads}
-use Rattle.certificate.specs.Linking.{Linking}
+use Rattle.certificate.specs.Telling.{Tells}
 use Rattle.certificate.proofs.Telling.{tells-no, tells-leb}
 
--- the stop that connection c goes to
-pub record Goes (f : List ℕ) (s n : ℕ) (g : List ℕ) (c stop : ℕ) : Type 0 where
-  pub linking : Linking f s n g
+-- connection c goes to a stop, where its passenger is ready at r
+pub record Arrives (f : List ℕ) (s n : ℕ) (g : List ℕ) (c stop r : ℕ) : Type 0 where
+  pub timed : Timed f s n g
   pub below : c < n
   pub stop-is : stop ≡ to f c
+  pub ready-is : r ≡ readyIn f g c
 
-module _ {f : List ℕ} {s n : ℕ} {g : List ℕ} {c stop : ℕ} (r : Goes f s n g c stop) where
-  connection : c < connections f
-  connection = rw (r .linking .opened .connections) at (r .below)
-
-  -- has a minimum transfer time
-  pub stop-room : HasStop f stop
-  stop-room = rw (r .stop-is) (room-for-stop f (r .linking .opened .timetable) (to f c) (r .linking .sound .to-stop c connection))
-
-  -- and an end
-  pub end-room : (ends : List ℕ) → Ends (shown f g) g n ends → stop < length ends
-  end-room ends e = omega (arith, e .long, r .linking .sound .to-stop c connection)
-
--- x and y: when c arrives and how long a change takes there
-pub record Arrives (f : List ℕ) (s n : ℕ) (g : List ℕ) (c stop x y : ℕ) : Type 0 where
-  pub goes : Goes f s n g c stop
-  pub arrival-is : x ≡ arrivalIn g c
-  pub transfer-is : y ≡ transferTime f stop
-
-module _ {f : List ℕ} {s n : ℕ} {g : List ℕ} {c stop x y : ℕ} (r : Arrives f s n g c stop x y) where
-  ready-is : x + y ≡ ready (shown f g) c (to f c)
-  ready-is = rw (r .arrival-is, r .transfer-is, r .goes .stop-is)
-
-  -- the passenger is ready at a time of 16 bits
-  pub ready-fits : x + y < 65536
-  ready-fits =
-      let h = connection (r .goes) in
-      let sound = r .goes .linking .sound in
-      omega (arith, ready-is, sound .early c h, sound .transfers c (to f c) h)
+module _ {f : List ℕ} {s n : ℕ} {g : List ℕ} {c stop r : ℕ} (a : Arrives f s n g c stop r) where
+  -- its board has a last departure
+  pub last-room : (lasts : List ℕ) → Lasts (shown f g) g n lasts → stop < length lasts
+  last-room lasts l = omega (arith, l .long, a .stop-is, to-below (a .timed .opened) c (a .below), a .timed .opened .stops)
 
   -- the transfer entry of c
   module _ {e : ℕ} (entry : e ≡ transferIn g n c) where
     entry-is : changeOf (shown f g) g c ≡ e
-    entry-is = rw (← r .goes .linking .opened .connections) (sym entry)
+    entry-is = rw (← a .timed .opened .connections) (sym entry)
 
-    module _ (marks ends : List ℕ) where
+    module _ (marks lasts : List ℕ) where
       abbrev Link : Type 0
-      Link = ChangeLink (shown f g) g marks ends c
+      Link = ChangeLink (shown f g) g marks lasts c
 
       -- none is right where the last departure leaves too early
-      ended : e ≡ none → Link → getD ends stop 0 ≤ x + y
-      ended z (nobody q k) = rw (r .goes .stop-is, ready-is) k
-      ended z (leads k q i m) = absurd (omega (arith, entry-is, r .goes .linking .sound .few))
+      missed : e ≡ none → Link → getD lasts stop 0 ≤ r
+      missed z (nobody q k) = rw (a .stop-is, a .ready-is) k
+      missed z (leads k q i m) = absurd (omega (arith, entry-is, a .timed .sound .few))
 
-      pub change-nobody : e ≡ none → Tells (leb (getD ends stop 0) (x + y)) Link
-      change-nobody z =
-          tells-leb (getD ends stop 0) (x + y) (λ k. nobody (entry-is ∙ z) (rw (r .goes .stop-is, ready-is) at k)) (ended z)
+      pub change-nobody : e ≡ none → Tells (leb (getD lasts stop 0) r) Link
+      change-nobody z = tells-leb (getD lasts stop 0) r (λ k. nobody (entry-is ∙ z) (rw (a .stop-is, a .ready-is) at k)) (missed z)
 
-      -- any other entry leaves from that stop and in time, and the departure before it too early
+      -- any other entry is on that board and leaves in time, and the departure before it too early
       record Leads : Type 0 where
         below : e < n
-        here : from f e ≡ stop
-        in-time : x + y ≤ departureIn g e
-        too-early : getD marks e 0 ≤ x + y
+        here : boardIn f e ≡ stop
+        in-time : r ≤ departureIn g e
+        too-early : getD marks e 0 ≤ r
 
-      module _ (some : e ≡ none → ⊥) where
-        led : Link → Leads
-        led (nobody q k) = absurd (some (sym entry-is ∙ q))
-        led (leads k q i m) =
-            record {
-              below = omega (arith, entry-is, r .goes .linking .opened .connections);
-              here = rw (r .goes .stop-is, ← entry-is) q;
-              in-time = rw (ready-is, ← entry-is) i;
-              too-early = rw (ready-is, ← entry-is) m;
-            }
+      led : (e ≡ none → ⊥) → Link → Leads
+      led some (nobody q k) = absurd (some (sym entry-is ∙ q))
+      led some (leads k q i m) =
+          record {
+            below = omega (arith, entry-is, a .timed .opened .connections);
+            here = rw (a .stop-is, ← entry-is) q;
+            in-time = rw (a .ready-is, ← entry-is) i;
+            too-early = rw (a .ready-is, ← entry-is) m;
+          }
 
-        pub change-past : n ≤ e → Tells false Link
-        change-past k = tells-no (λ t. omega (arith, led t .below))
+      -- it is neither none nor a connection
+      pub change-past : (e ≡ none → ⊥) → n ≤ e → Tells false Link
+      change-past some k = tells-no (λ t. omega (arith, led some t .below))
 
-        -- b and d: its stop and its departure
-        module _ {b : ℕ} (leaves : b ≡ from f e) where
-          pub change-elsewhere : (b ≡ stop → ⊥) → Tells false Link
-          change-elsewhere k = tells-no (λ t. k (leaves ∙ led t .here))
+      -- it is a connection; b and d are its board and its departure
+      module _ (below : e < n) {b : ℕ} (leaves : b ≡ boardIn f e) where
+        connects : Link → Leads
+        connects t = led (λ q. omega (arith, a .timed .sound .few, a .timed .opened .connections)) t
 
-          module _ {d : ℕ} (departs : d ≡ departureIn g e) where
-            pub change-early : d < x + y → Tells false Link
-            change-early k = tells-no (λ t. omega (arith, led t .in-time))
+        pub change-elsewhere : (b ≡ stop → ⊥) → Tells false Link
+        change-elsewhere k = tells-no (λ t. k (leaves ∙ connects t .here))
 
-            pub change-leads : e < n → b ≡ stop → x + y ≤ d → Tells (leb (getD marks e 0) (x + y)) Link
-            change-leads k q i =
-                tells-leb (getD marks e 0) (x + y)
-                (λ m. leads
-                (omega (arith, entry-is, r .goes .linking .opened .connections))
-                (rw (entry-is, ← leaves, q) (r .goes .stop-is))
-                (rw (entry-is, ← ready-is, ← departs) i)
-                (rw (entry-is, ← ready-is) m))
-                (λ t. led t .too-early)
+        module _ {d : ℕ} (departs : d ≡ departureIn g e) where
+          pub change-early : d < r → Tells false Link
+          change-early k = tells-no (λ t. omega (arith, connects t .in-time))
+
+          pub change-leads : b ≡ stop → r ≤ d → Tells (leb (getD marks e 0) r) Link
+          change-leads q i =
+              tells-leb (getD marks e 0) r
+              (λ m. leads
+              (omega (arith, entry-is, a .timed .opened .connections))
+              (rw (entry-is, ← leaves, q) (a .stop-is))
+              (rw (entry-is, ← a .ready-is, ← departs) i)
+              (rw (entry-is, ← a .ready-is) m))
+              (λ t. connects t .too-early)

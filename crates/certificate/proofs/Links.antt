@@ -8,8 +8,8 @@ use native.Mathlib.Omega.{arith}
 use lib.ListN.{getD}
 use Rattle.model.specs.Least.{key}
 use Rattle.model.specs.Network.{Network, Sound}
-use Rattle.model.specs.Graph.{waiting, firstDeparture}
-use Rattle.model.proofs.Tests.{by-lt}
+use Rattle.model.specs.Graph.{board, waiting, firstDeparture}
+use Rattle.model.proofs.ByCases.{by-lt}
 use Rattle.model.proofs.Boards.{Listed, nobody, foremost, Behind, waiting-listed, first-listed, entry-first, entry-holds}
 use Rattle.certificate.proofs.Marks.{first-leads, next-leads}
 use Rattle.certificate.specs.Links.{firstOf, nextOf, LinksRight, FirstLink, NextLink, nobody, leads, Mark, missed, first, next, Marks, AllMarked}
@@ -22,7 +22,7 @@ module _ (net : Network) (sound : Sound net) (g : List ℕ) where
   k c = key (net .departure) c
 
   -- a connection that a link leads to
-  pub first-led : {s d : ℕ} → FirstLink net g s → firstOf net g s ≡ d → d < net .connections → net .from d ≡ s
+  pub first-led : {s d : ℕ} → FirstLink net g s → firstOf net g s ≡ d → d < net .connections → board net d ≡ s
   first-led link e h = rw e at (first-leads net g link (λ q. omega (arith, sound .few)) .1)
 
   pub next-led : {c d : ℕ} → NextLink net g c → nextOf net g c ≡ d → d < net .connections → Behind net c d
@@ -32,8 +32,8 @@ module _ (net : Network) (sound : Sound net) (g : List ℕ) where
 
   module _ (marks : List ℕ) (starts : (s : ℕ) → s < net .stops → FirstLink net g s) (goes : (c : ℕ) → c < net .connections → NextLink net g c)
       (marked : Marks net g (net .stops) (net .connections) marks) (all : AllMarked net marks) where
-    -- the link that leads to the first departure of s is the stop's own
-    first-is : (s d : ℕ) → d < n → net .from d ≡ s → ((e : ℕ) → e < n → net .from e ≡ s → k d ≤ k e) → Mark net g (net .stops) n d (getD marks d 0)
+    -- the link that leads to the first departure of s is the board's own
+    first-is : (s d : ℕ) → d < n → board net d ≡ s → ((e : ℕ) → e < n → board net e ≡ s → k d ≤ k e) → Mark net g (net .stops) n d (getD marks d 0)
         → firstOf net g s ≡ d
     first-is s d h b least (missed q f w) = absurd (all d h q)
     first-is s d h b least (first t i q x) = rw (sym b ∙ first-led (starts t i) q h) q
@@ -45,7 +45,7 @@ module _ (net : Network) (sound : Sound net) (g : List ℕ) where
     firsts : (s : ℕ) → s < net .stops → firstOf net g s ≡ firstDeparture net s
     firsts s h = by-list (starts s h) (first-listed net sound s)
       where
-        by-list : FirstLink net g s → Listed net (λ d. net .from d ≡ s) (firstDeparture net s) → firstOf net g s ≡ firstDeparture net s
+        by-list : FirstLink net g s → Listed net (λ d. board net d ≡ s) (firstDeparture net s) → firstOf net g s ≡ firstDeparture net s
         by-list (nobody q) (nobody r f) = q ∙ sym r
         by-list (leads l b) (nobody r f) = absurd (f _ l b)
         by-list o (foremost l b f) = first-is s _ l b f (marked .each _ l)
@@ -55,12 +55,12 @@ module _ (net : Network) (sound : Sound net) (g : List ℕ) where
         → ((p : ℕ) → p < n → k p < k c → nextOf net g p ≡ waiting net p) → Mark net g (net .stops) n d (getD marks d 0) → nextOf net g c ≡ d
     next-is c d hc h b least before (missed q f w) = absurd (all d h q)
     next-is c d hc h b least before (first s i q x) =
-        let p : net .from c ≡ s = sym (b .0) ∙ first-led (starts s i) q h in
+        let p : board net c ≡ s = sym (b .0) ∙ first-led (starts s i) q h in
         let e : firstDeparture net s ≡ d = sym (firsts s i) ∙ q in
         absurd (omega (arith, b .1, rw e at (entry-first net sound (first-listed net sound s) c hc p .1)))
     next-is c d hc h b least before (next p i q x) =
         let a = next-led (goes p i) q h in
-        let s : net .from c ≡ net .from p = sym (b .0) ∙ a .0 in
+        let s : board net c ≡ board net p = sym (b .0) ∙ a .0 in
         ⊎-elim
         (λ (l : k c < k p). absurd (omega (arith, a .1, least p i (sym s, l))))
         (λ (l : k p ≤ k c).
@@ -92,7 +92,7 @@ module _ (net : Network) (sound : Sound net) (g : List ℕ) where
     pub right-first : (s : ℕ) → s < net .stops → FirstLink net g s
     right-first s h = by-list (first-listed net sound s)
       where
-        by-list : Listed net (λ d. net .from d ≡ s) (firstDeparture net s) → FirstLink net g s
+        by-list : Listed net (λ d. board net d ≡ s) (firstDeparture net s) → FirstLink net g s
         by-list (nobody r f) = nobody (right .firsts s h ∙ r)
         by-list (foremost l b f) = leads (rw (right .firsts s h) l) (rw (right .firsts s h) b)
 
@@ -104,7 +104,7 @@ module _ (net : Network) (sound : Sound net) (g : List ℕ) where
         by-list (foremost l b f) = leads (rw (right .nexts c h) l) (rw (right .nexts c h) (b .0)) (rw (right .nexts c h) (b .1))
 
     -- and reach every connection: from one before d on its board the links go on to d
-    climb : (d : ℕ) → d < n → ((c : ℕ) → c < n → nextOf net g c ≡ d → ⊥) → (m c : ℕ) → c < n → net .from d ≡ net .from c → k c < k d → k d < k c + m → ⊥
+    climb : (d : ℕ) → d < n → ((c : ℕ) → c < n → nextOf net g c ≡ d → ⊥) → (m c : ℕ) → c < n → board net d ≡ board net c → k c < k d → k d < k c + m → ⊥
     climb d h w zero c i s l b = omega arith
     climb d h w (suc m) c i s l b =
         let e = entry-first net sound (waiting-listed net sound c) d h (s, l) in
@@ -123,7 +123,7 @@ module _ (net : Network) (sound : Sound net) (g : List ℕ) where
         by-mark (first s i e x) = omega arith
         by-mark (next c i e x) = omega (arith, sound .forward c i, sound .early c i)
         by-mark (missed x f w) =
-            let s = net .from d in
+            let s = board net d in
             let i = sound .from-stop d h in
             let o = entry-first net sound (first-listed net sound s) d h refl in
             let b = entry-holds net sound (first-listed net sound s) (omega (arith, o .0, sound .few)) .1 in

@@ -1,28 +1,30 @@
--- How the link of one more stop or connection keeps the marks of connections and stops, and what the check of a link has told.
+-- How the link of one more board or connection keeps the marks of connections and boards, and what the check of a link has told.
 -- Assumes nothing.
 use mathlib.Core.Path.{_≡_, refl, sym, _∙_}
-use mathlib.Core.Bool.{Bool, true, false, false≢true}
+use mathlib.Core.Bool.{true, false, false≢true}
 use mathlib.Core.List.{List}
 use mathlib.Core.Logic.{⊎-elim}
 use Prim.Native.Nat.{ℕ, suc, _+_, _<_, _≤_}
 use native.Mathlib.Numerals.{add-one}
 use native.Mathlib.Omega.{arith}
-use borrow.Author.Tests.{lt-ltb, le-ltb, ltb-true}
-use lib.Dec.{ltb}
+use borrow.Author.Tests.{lt-ltb, le-ltb, ltb-true, eq-eqb, ne-eqb}
+use lib.Dec.{ltb, eqb}
 use lib.ListN.{length, getD, set, length-set}
 use lib.Seq.{getD-set-same, getD-set-other}
-use Rattle.timetable.specs.File.{connections, from}
+use Rattle.timetable.specs.File.{connections}
 use Rattle.model.specs.Least.{none, key}
 use Rattle.model.specs.Network.{Network, Sound}
 use Rattle.model.specs.Graph.{board, departureIn, waitingIn, firstIn}
-use Rattle.model.proofs.Tests.{by-eq, same-test, one-more}
+use Rattle.model.proofs.ByCases.{by-eq, same-test, one-more}
 use Rattle.model.specs.Shown.{shown}
-use Rattle.certificate.specs.Links.{firstOf, nextOf, FirstLink, NextLink, nobody, leads, Mark, missed, first, next, Marks, End, followed, last, Ends}
-use Rattle.certificate.specs.Linking.{Linking}
-use Rattle.certificate.proofs.Telling.{Told, told, denied}
+use Rattle.certificate.specs.Links.{firstOf, nextOf, FirstLink, NextLink, nobody, leads, Mark, missed, first, next, Marks, Last, followed, unfollowed, Lasts}
+use Rattle.entries.specs.Timed.{Timed, boardIn}
+use Rattle.entries.proofs.Opened.{departs-early}
+use Rattle.certificate.specs.Telling.{FirstsLinked, NextsLinked, FirstTold, NextTold}
+use Rattle.certificate.proofs.Telling.{told, denied}
 
--- order by time and then number, of numbers below 65536
-module _ (time : ℕ → ℕ) (c d own other : ℕ) (own-is : own ≡ time c) (other-is : other ≡ time d) (small : c < 65536) (small′ : d < 65536) where
+-- order by time and then number
+module _ (time : ℕ → ℕ) (c d own other : ℕ) (own-is : own ≡ time c) (other-is : other ≡ time d) (small : c < none) (small′ : d < none) where
   pub later-after : own < other → true ≡ ltb (key time c) (key time d)
   later-after h = sym (lt-ltb (key time c) (key time d) (omega arith))
 
@@ -45,7 +47,7 @@ stored P Q n l i v long old keep new j h =
     (by-eq j i)
 
 module _ (net : Network) (g : List ℕ) where
-  -- a mark is kept by the link of stop k that leads elsewhere
+  -- a mark is kept by the link of board k that leads elsewhere
   first-apart : {k m d x : ℕ} → (firstOf net g k ≡ d → ⊥) → Mark net g k m d x → Mark net g (suc k) m d x
   first-apart {k} {m} {d} ne (missed q a b) = missed q (one-more (λ s. firstOf net g s ≡ d → ⊥) k a ne) b
   first-apart ne (first s h l q) = first s (omega arith) l q
@@ -57,13 +59,13 @@ module _ (net : Network) (g : List ℕ) where
   next-apart ne (first s h l q) = first s h l q
   next-apart ne (next c h l q) = next c (omega arith) l q
 
-  -- an end is kept by connection m if that leaves from another stop or is followed
-  end-apart : {m s x : ℕ} → (board net m ≡ s → nextOf net g m ≡ none → ⊥) → End net g m s x → End net g (suc m) s x
-  end-apart {m} {s} ne (followed q a) = followed q (one-more (λ c. board net c ≡ s → nextOf net g c ≡ none → ⊥) m a ne)
-  end-apart ne (last c h b l q) = last c (omega arith) b l q
+  -- the last of a board is kept by connection m if that is on another or is followed
+  last-apart : {m s x : ℕ} → (board net m ≡ s → nextOf net g m ≡ none → ⊥) → Last net g m s x → Last net g (suc m) s x
+  last-apart {m} {s} ne (followed q a) = followed q (one-more (λ c. board net c ≡ s → nextOf net g c ≡ none → ⊥) m a ne)
+  last-apart ne (unfollowed c h b l q) = unfollowed c (omega arith) b l q
 
   module _ {k m : ℕ} {marks : List ℕ} (old : Marks net g k m marks) where
-    -- stop k links to d
+    -- board k links to d
     first-marked : (d : ℕ) → firstOf net g k ≡ d → Marks net g (suc k) m (set marks d 0)
     first-marked d l =
         record {
@@ -80,7 +82,7 @@ module _ (net : Network) (g : List ℕ) where
         }
 
     module _ (sound : Sound net) where
-      -- stop k has no link
+      -- board k has no link
       first-unmarked : firstOf net g k ≡ none → Marks net g (suc k) m marks
       first-unmarked l =
           record { long = old .long; each = λ d h. first-apart (λ (e : firstOf net g k ≡ d). omega (arith, sound .few)) (old .each d h) }
@@ -90,110 +92,111 @@ module _ (net : Network) (g : List ℕ) where
       next-unmarked l =
           record { long = old .long; each = λ d h. next-apart (λ (e : nextOf net g m ≡ d). omega (arith, sound .few)) (old .each d h) }
 
-  module _ {m : ℕ} {ends : List ℕ} (old : Ends net g m ends) where
+  module _ {m : ℕ} {lasts : List ℕ} (old : Lasts net g m lasts) where
     -- connection m is not followed
-    next-ends : nextOf net g m ≡ none → Ends net g (suc m) (set ends (board net m) (suc (net .departure m)))
-    next-ends l =
+    next-last : nextOf net g m ≡ none → Lasts net g (suc m) (set lasts (board net m) (suc (net .departure m)))
+    next-last l =
         record {
           long = rw length-set (old .long);
-          each = stored (End net g m) (End net g (suc m)) (net .stops) ends (board net m) (suc (net .departure m)) (old .long) (old .each) (λ j x ne. end-apart (λ e q. ne (sym e))) (last m (omega arith) refl l refl);
+          each = stored (Last net g m) (Last net g (suc m)) (net .stops) lasts (board net m) (suc (net .departure m)) (old .long) (old .each) (λ j x ne. last-apart (λ e q. ne (sym e))) (unfollowed m (omega arith) refl l refl);
         }
 
     -- connection m is followed
-    next-goes : (nextOf net g m ≡ none → ⊥) → Ends net g (suc m) ends
-    next-goes ne = record { long = old .long; each = λ s h. end-apart (λ e q. ne q) (old .each s h) }
+    next-followed : (nextOf net g m ≡ none → ⊥) → Lasts net g (suc m) lasts
+    next-followed ne = record { long = old .long; each = λ s h. last-apart (λ e q. ne q) (old .each s h) }
 
-  -- a first departure that is not none leaves from its stop
+  -- a first departure that is not none is on its board
   pub first-leads : {s : ℕ} → FirstLink net g s → (firstOf net g s ≡ none → ⊥) → (firstOf net g s < net .connections) × (board net (firstOf net g s) ≡ s)
   first-leads (nobody q) ne = absurd (ne q)
   first-leads (leads h b) ne = (h, b)
 
-  -- a waiting entry that is not none leaves from the same stop and after c
+  -- a waiting entry that is not none is on the same board and leaves after c
   pub next-leads : {c : ℕ} → NextLink net g c → (nextOf net g c ≡ none → ⊥)
       → (nextOf net g c < net .connections) × (board net (nextOf net g c) ≡ board net c) × (key (net .departure) c < key (net .departure) (nextOf net g c))
   next-leads (nobody q) ne = absurd (ne q)
   next-leads (leads h b k) ne = (h, b, k)
 
-module _ (f g : List ℕ) (stops n : ℕ) (given : Linking f stops n g) where
-  module _ (c : ℕ) (h : c < n) where
-    abbrev known : c < connections f
-    known = omega (arith, given .opened .connections)
+module _ {f g : List ℕ} {s n : ℕ} (given : Timed f s n g) where
+  -- none is no connection
+  connections-few : n < none
+  connections-few = omega (arith, given .sound .few, given .opened .connections)
 
-    -- one minute more than a departure fits a mark, and is not none
-    pub departure-early : departureIn g c + 1 < none
-    departure-early = omega (arith, given .sound .forward c known, given .sound .early c known)
+  -- one minute more than a departure fits a mark, and is not none
+  pub departure-fits : (c : ℕ) → c < n → departureIn g c + 1 < none
+  departure-fits c h = omega (arith, departs-early given c h)
 
-    -- a connection leaves from a stop
-    pub from-stop : from f c < stops
-    from-stop = omega (arith, given .sound .from-stop c known, given .opened .stops)
-
-  -- the check of stop s, whose first departure is e
-  module _ (s e : ℕ) (is : e ≡ firstIn g n s) {marks : List ℕ} (old : Marks (shown f g) g s 0 marks) where
-    reads-first : firstOf (shown f g) g s ≡ e
+  -- the check of board b, whose first departure is e
+  module _ (b e : ℕ) (is : e ≡ firstIn g n b) {marks : List ℕ} (old : FirstsLinked f g b marks) where
+    reads-first : firstOf (shown f g) g b ≡ e
     reads-first = rw (← given .opened .connections) (sym is)
 
-    -- what the check tells, and the marks that it leaves
-    abbrev FirstTold : Bool → List ℕ → Type 0
-    FirstTold r after = Told r (FirstLink (shown f g) g s) (Marks (shown f g) g (suc s) 0 after)
-
     -- there is none
-    pub first-none : e ≡ none → FirstTold true marks
+    first-none : e ≡ none → FirstTold f g b true marks
     first-none q = told (nobody (reads-first ∙ q)) (first-unmarked (shown f g) g old (given .sound) (reads-first ∙ q))
 
-    module _ (ne : e ≡ none → ⊥) where
-      found-first : FirstLink (shown f g) g s → (e < connections f) × (from f e ≡ s)
-      found-first link = rw reads-first at (first-leads (shown f g) g link (λ q. ne (sym reads-first ∙ q)))
+    module _ (some : e ≡ none → ⊥) where
+      found-first : FirstLink (shown f g) g b → (e < connections f) × (boardIn f e ≡ b)
+      found-first link = rw reads-first at (first-leads (shown f g) g link (λ q. some (sym reads-first ∙ q)))
 
-      -- it is no connection
-      pub first-past : {after : List ℕ} → n ≤ e → FirstTold false after
+      -- it is neither none nor a connection
+      first-past : n ≤ e → FirstTold f g b false marks
       first-past h = denied (λ link. omega (arith, found-first link .0, given .opened .connections))
 
-      -- it leaves from another stop
-      pub first-wrong : {after : List ℕ} → (from f e ≡ s → ⊥) → FirstTold false after
-      first-wrong other = denied (λ link. other (found-first link .1))
+    -- it is no connection
+    pub first-off : n ≤ e → FirstTold f g b (eqb e none) marks
+    first-off h = ⊎-elim (λ q. rw (eq-eqb e none q) (first-none q)) (λ some. rw (ne-eqb e none some) (first-past some h)) (by-eq e none)
 
-    -- it leaves from s
-    pub first-right : e < n → from f e ≡ s → FirstTold true (set marks e 0)
-    first-right h b =
+    -- it is on another board
+    pub first-wrong : {after : List ℕ} → e < n → (boardIn f e ≡ b → ⊥) → FirstTold f g b false after
+    first-wrong h other = denied (λ link. other (found-first (λ q. omega (arith, connections-few)) link .1))
+
+    -- it is on b
+    pub first-right : e < n → boardIn f e ≡ b → FirstTold f g b true (set marks e 0)
+    first-right h on =
         told
-        (leads (rw reads-first (omega (arith, given .opened .connections))) (rw reads-first b))
+        (leads (rw reads-first (omega (arith, given .opened .connections))) (rw reads-first on))
         (first-marked (shown f g) g old e reads-first)
 
   -- the check of connection c, whose waiting entry is e
-  module _ (c e : ℕ) (is : e ≡ waitingIn g n c) {marks ends : List ℕ} (old : Marks (shown f g) g stops c marks) (past : Ends (shown f g) g c ends) where
+  module _ (c e : ℕ) (is : e ≡ waitingIn g n c) {marks lasts : List ℕ} (old : NextsLinked f g s c marks lasts) where
     reads-next : nextOf (shown f g) g c ≡ e
     reads-next = rw (← given .opened .connections) (sym is)
 
-    -- what the check tells, and the marks and ends that it leaves
-    abbrev NextTold : Bool → List ℕ → List ℕ → Type 0
-    NextTold r after done = Told r (NextLink (shown f g) g c) (Marks (shown f g) g stops (suc c) after × Ends (shown f g) g (suc c) done)
-
     -- there is none
-    pub next-none : (stop departure : ℕ) → stop ≡ from f c → departure ≡ departureIn g c → e ≡ none → NextTold true marks (set ends stop (departure + 1))
-    next-none stop departure a b q =
+    pub next-none : (b departure : ℕ) → b ≡ boardIn f c → departure ≡ departureIn g c → e ≡ none → NextTold f g s c true marks (set lasts b (departure + 1))
+    next-none b departure p d q =
         let l = reads-next ∙ q in
-        told (nobody l) (next-unmarked (shown f g) g old (given .sound) l, rw (a, add-one departure, b) (next-ends (shown f g) g past l))
+        told (nobody l)
+        (record { marks = next-unmarked (shown f g) g (old .marks) (given .sound) l; lasts = rw (p, add-one departure, d) (next-last (shown f g) g (old .lasts) l) })
 
-    module _ (ne : e ≡ none → ⊥) where
-      found-next : NextLink (shown f g) g c → (e < connections f) × (from f e ≡ from f c) × (key (departureIn g) c < key (departureIn g) e)
-      found-next link = rw reads-next at (next-leads (shown f g) g link (λ q. ne (sym reads-next ∙ q)))
+    module _ (some : e ≡ none → ⊥) where
+      found-next : NextLink (shown f g) g c → (e < connections f) × (boardIn f e ≡ boardIn f c) × (key (departureIn g) c < key (departureIn g) e)
+      found-next link = rw reads-next at (next-leads (shown f g) g link (λ q. some (sym reads-next ∙ q)))
 
-      -- it is no connection
-      pub next-past : {after done : List ℕ} → n ≤ e → NextTold false after done
+      -- it is neither none nor a connection
+      pub next-past : {after done : List ℕ} → n ≤ e → NextTold f g s c false after done
       next-past h = denied (λ link. omega (arith, found-next link .0, given .opened .connections))
 
-      -- it leaves from another stop
-      pub next-wrong : {after done : List ℕ} → (from f e ≡ from f c → ⊥) → NextTold false after done
-      next-wrong other = denied (λ link. other (found-next link .1))
+    -- it is a connection
+    module _ (h : e < n) where
+      some : e ≡ none → ⊥
+      some q = omega (arith, connections-few)
 
-      -- it does not leave after c
-      pub next-early : {after done : List ℕ} → ltb (key (departureIn g) c) (key (departureIn g) e) ≡ false → NextTold false after done
-      next-early t = denied (λ link. false≢true (sym t ∙ lt-ltb _ _ (found-next link .2)))
+      -- that is on another board
+      pub next-wrong : {after done : List ℕ} → (boardIn f e ≡ boardIn f c → ⊥) → NextTold f g s c false after done
+      next-wrong other = denied (λ link. other (found-next some link .1))
 
-      -- it leaves from the same stop, after c
-      pub next-right : (departure : ℕ) → departure ≡ departureIn g c → e < n → from f e ≡ from f c → ltb (key (departureIn g) c) (key (departureIn g) e) ≡ true
-          → NextTold true (set marks e (departure + 1)) ends
-      next-right departure b h q t =
+      -- that does not leave after c
+      pub next-early : {after done : List ℕ} → ltb (key (departureIn g) c) (key (departureIn g) e) ≡ false → NextTold f g s c false after done
+      next-early t = denied (λ link. false≢true (sym t ∙ lt-ltb _ _ (found-next some link .2)))
+
+      -- that is on the same board and leaves after c
+      pub next-right : (departure : ℕ) → departure ≡ departureIn g c → boardIn f e ≡ boardIn f c → ltb (key (departureIn g) c) (key (departureIn g) e) ≡ true
+          → NextTold f g s c true (set marks e (departure + 1)) lasts
+      next-right departure d on t =
           told
-          (leads (rw reads-next (omega (arith, given .opened .connections))) (rw reads-next q) (rw reads-next (ltb-true _ _ t)))
-          (rw (add-one departure, b) (next-marked (shown f g) g old e reads-next), next-goes (shown f g) g past (λ l. ne (sym reads-next ∙ l)))
+          (leads (rw reads-next (omega (arith, given .opened .connections))) (rw reads-next on) (rw reads-next (ltb-true _ _ t)))
+          (record {
+            marks = rw (add-one departure, d) (next-marked (shown f g) g (old .marks) e reads-next);
+            lasts = next-followed (shown f g) g (old .lasts) (λ l. some (sym reads-next ∙ l));
+          })

@@ -6,7 +6,7 @@ use native.Mathlib.Omega.{arith}
 use borrow.Author.Count.{below-more}
 use borrow.Author.Tests.{leb-true, le-leb, not-true, not-false}
 use lib.Dec.{leb}
-use Rattle.certificate.specs.Links.{Tells}
+use Rattle.certificate.specs.Telling.{Tells, Told}
 
 -- yes tells what holds, no what does not
 pub tells-yes : {P : Type 0} → P → Tells true P
@@ -15,16 +15,12 @@ tells-yes p = (λ e. p, λ q. refl)
 pub tells-no : {P : Type 0} → (P → ⊥) → Tells false P
 tells-no n = (λ e. absurd (false≢true e), λ p. absurd (n p))
 
--- r tells whether P holds; if it does, so does Q
-abbrev pub Told : Bool → Type 0 → Type 0 → Type 0
-Told r P Q = Tells r P × (r ≡ true → Q)
-
 module _ {P Q : Type 0} where
   pub told : P → Q → Told true P Q
-  told p q = (tells-yes p, λ e. q)
+  told p q = record { tells = tells-yes p; leaves = λ e. q }
 
   pub denied : (P → ⊥) → Told false P Q
-  denied n = (tells-no n, λ e. absurd (false≢true e))
+  denied n = record { tells = tells-no n; leaves = λ e. absurd (false≢true e) }
 
 -- a test of two numbers tells what holds just if the first is at most the second
 pub tells-leb : {P : Type 0} (m n : ℕ) → (m ≤ n → P) → (P → m ≤ n) → Tells (leb m n) P

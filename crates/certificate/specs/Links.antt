@@ -1,8 +1,7 @@
 -- What a handed-in graph area's own lists have to show so that they are the departure lists of its times: each link leads to a
--- later departure of the same stop, each connection is linked to, and a transfer entry leaves in time where the departure
+-- later departure of the same board, each connection is linked to, and a transfer entry leaves in time where the departure
 -- before it does not. Assumes nothing.
 use mathlib.Core.Path.{_≡_}
-use mathlib.Core.Bool.{Bool, true}
 use mathlib.Core.List.{List}
 use Prim.Native.Nat.{ℕ, suc, _<_, _≤_}
 use lib.ListN.{length, getD}
@@ -12,7 +11,7 @@ use Rattle.model.specs.Graph.{board, ready, waiting, transfer, firstDeparture, 
 
 -- the entries of a graph area of the network
 abbrev pub firstOf : Network → List ℕ → ℕ → ℕ
-firstOf net g s = firstIn g (net .connections) s
+firstOf net g b = firstIn g (net .connections) b
 
 abbrev pub nextOf : Network → List ℕ → ℕ → ℕ
 nextOf net g c = waitingIn g (net .connections) c
@@ -22,7 +21,7 @@ changeOf net g c = transferIn g (net .connections) c
 
 -- first departures and waiting entries are those of the network
 pub record LinksRight (net : Network) (g : List ℕ) : Type 0 where
-  pub firsts : (s : ℕ) → s < net .stops → firstOf net g s ≡ firstDeparture net s
+  pub firsts : (b : ℕ) → b < net .stops → firstOf net g b ≡ firstDeparture net b
   pub nexts : (c : ℕ) → c < net .connections → nextOf net g c ≡ waiting net c
 
 -- so are the transfer entries
@@ -34,21 +33,22 @@ pub record ListsRight (net : Network) (g : List ℕ) : Type 0 where
   pub links : LinksRight net g
   pub changes : ChangesRight net g
 
--- the first departure of s is none, or leaves from s
-pub data FirstLink (net : Network) (g : List ℕ) (s : ℕ) : Type 0 where
-  nobody : firstOf net g s ≡ none → FirstLink net g s
-  leads : firstOf net g s < net .connections → board net (firstOf net g s) ≡ s → FirstLink net g s
+-- the first departure of board b is none, or is on b
+pub data FirstLink (net : Network) (g : List ℕ) (b : ℕ) : Type 0 where
+  nobody : firstOf net g b ≡ none → FirstLink net g b
+  leads : firstOf net g b < net .connections → board net (firstOf net g b) ≡ b → FirstLink net g b
 
--- the waiting entry of c is none, or leaves from the same stop and after c
+-- the waiting entry of c is none, or is on the same board and leaves after c
 pub data NextLink (net : Network) (g : List ℕ) (c : ℕ) : Type 0 where
   nobody : nextOf net g c ≡ none → NextLink net g c
-  leads : nextOf net g c < net .connections → board net (nextOf net g c) ≡ board net c → key (net .departure) c < key (net .departure) (nextOf net g c) → NextLink net g c
+  leads : nextOf net g c < net .connections → board net (nextOf net g c) ≡ board net c
+      → key (net .departure) c < key (net .departure) (nextOf net g c) → NextLink net g c
 
--- x is what is marked at d by the links of the first k stops and m connections: none if no link leads to d; 0 if d is the first
--- of a stop; else one minute more than the departure of a connection that d follows
+-- x is what is marked at d by the links of the first k boards and m connections: none if no link leads to d; 0 if d is the first
+-- of a board; else one minute more than the departure of a connection that d follows
 pub data Mark (net : Network) (g : List ℕ) (k m d x : ℕ) : Type 0 where
-  missed : x ≡ none → ((s : ℕ) → s < k → firstOf net g s ≡ d → ⊥) → ((c : ℕ) → c < m → nextOf net g c ≡ d → ⊥) → Mark net g k m d x
-  first : (s : ℕ) → s < k → firstOf net g s ≡ d → x ≡ 0 → Mark net g k m d x
+  missed : x ≡ none → ((b : ℕ) → b < k → firstOf net g b ≡ d → ⊥) → ((c : ℕ) → c < m → nextOf net g c ≡ d → ⊥) → Mark net g k m d x
+  first : (b : ℕ) → b < k → firstOf net g b ≡ d → x ≡ 0 → Mark net g k m d x
   next : (c : ℕ) → c < m → nextOf net g c ≡ d → x ≡ suc (net .departure c) → Mark net g k m d x
 
 -- the marks of all connections
@@ -56,27 +56,25 @@ pub record Marks (net : Network) (g : List ℕ) (k m : ℕ) (marks : List ℕ) :
   pub long : length marks ≡ net .connections
   pub each : (d : ℕ) → d < net .connections → Mark net g k m d (getD marks d 0)
 
--- x is what is marked at stop s by the waiting entries of the first m connections: 0 if each of its departures is followed by
+-- x is what is marked at board b by the waiting entries of the first m connections: 0 if each of its departures is followed by
 -- another, else one minute more than a departure that is not
-pub data End (net : Network) (g : List ℕ) (m s x : ℕ) : Type 0 where
-  followed : x ≡ 0 → ((c : ℕ) → c < m → board net c ≡ s → nextOf net g c ≡ none → ⊥) → End net g m s x
-  last : (c : ℕ) → c < m → board net c ≡ s → nextOf net g c ≡ none → x ≡ suc (net .departure c) → End net g m s x
+pub data Last (net : Network) (g : List ℕ) (m b x : ℕ) : Type 0 where
+  followed : x ≡ 0 → ((c : ℕ) → c < m → board net c ≡ b → nextOf net g c ≡ none → ⊥) → Last net g m b x
+  unfollowed : (c : ℕ) → c < m → board net c ≡ b → nextOf net g c ≡ none → x ≡ suc (net .departure c) → Last net g m b x
 
--- the ends of all stops
-pub record Ends (net : Network) (g : List ℕ) (m : ℕ) (ends : List ℕ) : Type 0 where
-  pub long : length ends ≡ net .stops
-  pub each : (s : ℕ) → s < net .stops → End net g m s (getD ends s 0)
+-- the last departures of all boards
+pub record Lasts (net : Network) (g : List ℕ) (m : ℕ) (lasts : List ℕ) : Type 0 where
+  pub long : length lasts ≡ net .stops
+  pub each : (b : ℕ) → b < net .stops → Last net g m b (getD lasts b 0)
 
 -- a link leads to each connection
 abbrev pub AllMarked : Network → List ℕ → Type 0
 AllMarked net marks = (d : ℕ) → d < net .connections → getD marks d 0 ≡ none → ⊥
 
--- the transfer entry of c is none and the stop's last departure leaves before the passenger is ready; or it leaves from that
--- stop in time, and the departure before it does not
-pub data ChangeLink (net : Network) (g marks ends : List ℕ) (c : ℕ) : Type 0 where
-  nobody : changeOf net g c ≡ none → getD ends (net .to c) 0 ≤ ready net c (net .to c) → ChangeLink net g marks ends c
-  leads : changeOf net g c < net .connections → board net (changeOf net g c) ≡ net .to c → ready net c (net .to c) ≤ net .departure (changeOf net g c) → getD marks (changeOf net g c) 0 ≤ ready net c (net .to c) → ChangeLink net g marks ends c
-
--- r tells whether P holds
-abbrev pub Tells : Bool → Type 0 → Type 0
-Tells r P = (r ≡ true → P) × (P → r ≡ true)
+-- the transfer entry of c is none, and the last departure of the board where c arrives leaves before the passenger is ready; or it
+-- is on that board and leaves in time, and the departure before it does not
+pub data ChangeLink (net : Network) (g marks lasts : List ℕ) (c : ℕ) : Type 0 where
+  nobody : changeOf net g c ≡ none → getD lasts (net .to c) 0 ≤ ready net c (net .to c) → ChangeLink net g marks lasts c
+  leads : changeOf net g c < net .connections → board net (changeOf net g c) ≡ net .to c
+      → ready net c (net .to c) ≤ net .departure (changeOf net g c) → getD marks (changeOf net g c) 0 ≤ ready net c (net .to c)
+      → ChangeLink net g marks lasts c

@@ -1,70 +1,60 @@
 // The check of a handed-in graph area whose times stand: its own lists are the certificate. A mark for each connection says
-// by which link it is reached, a mark for each stop which departure is not followed by another; with both each transfer entry
+// by which link it is reached, a mark for each board which departure is not followed by another; with both each transfer entry
 // is checked by itself.
 ghost use mathlib.Core.Path.{_≡_};
-ghost use mathlib.Core.Bool.{true};
-ghost use Prim.Native.Nat.{ℕ, suc, _*_, _<_};
+ghost use Prim.Native.Nat.{_*_, _<_};
 ghost use lib.Dec.{ltb};
-ghost use lib.ListN.{length, getD};
+ghost use lib.ListN.{length};
 ghost use Rattle.model.specs.Least.{none, key};
 ghost use Rattle.model.specs.Graph.{departureIn};
 ghost use Rattle.model.specs.Shown.{shown};
-ghost use Rattle.certificate.specs.Links.{FirstLink, NextLink, ChangeLink, Marks, Ends, ListsRight, Tells};
-ghost use Rattle.certificate.specs.Linking.{Linking};
+ghost use Rattle.entries.specs.Timed.{Timed};
+ghost use Rattle.certificate.specs.Links.{ListsRight};
+ghost use Rattle.certificate.specs.Telling.{Tells, FirstsLinked, FirstTold, FirstsTold, NextsLinked, NextTold, NextsTold};
+ghost use Rattle.certificate.specs.Telling.{NoneMissed, ChangeTold, ChangesTold};
 
-// How many stops and connections a timetable has at most: `maxStops` and `maxConnections`.
-const MAX_STOPS: usize = 500;
-
-const MAX_CONNECTIONS: usize = 2000;
-
-// No connection: `none`.
-const NONE: u16 = 65535;
-
-// Whether the first departure of stop s is none or leaves from s; it is marked as a first one.
+// Whether the first departure of board b is none or is on b; it is marked as a first one.
 fn link_first(
     file: &[u8],
     stops: usize,
     n: usize,
     graph: &[u16],
-    s: usize,
+    b: usize,
     marks: &mut [u16],
 ) -> bool
-    requires { ⌜ Linking (now file) stops n (now graph) × (s < stops) × Marks (shown (now file) (now graph)) (now graph) s 0 (now marks) ⌝ }
-    ensures { λ r. ⌜ Tells r (FirstLink (shown (now (file .entry)) (now (graph .entry))) (now (graph .entry)) s) × (r ≡ true → Marks (shown (now (file .entry)) (now (graph .entry))) (now (graph .entry)) (suc s) 0 (now (marks .exit))) ⌝ }
+    requires { ⌜ Timed (now file) stops n (now graph) × (b < stops) × FirstsLinked (now file) (now graph) b (now marks) ⌝ }
+    ensures { λ r. ⌜ FirstTold (now (file .entry)) (now (graph .entry)) b r (now (marks .exit)) ⌝ }
 {
-    let e = entries::first_departure(graph, n, s);
-    if e == NONE {
-        return true;
-    }
+    let e = entries::first_departure(graph, n, b);
     let d = e as usize;
     if n <= d {
-        return false;
+        return e == model::NONE;
     }
-    if timetable::from(file, stops, d) as usize != s {
+    if entries::board(file, stops, d) as usize != b {
         return false;
     }
     marks[d] = 0;
     true
 }
 
-// The first departures of all stops.
+// The first departures of all boards.
 fn link_firsts(file: &[u8], stops: usize, n: usize, graph: &[u16], marks: &mut [u16]) -> bool
-    requires { ⌜ Linking (now file) stops n (now graph) × Marks (shown (now file) (now graph)) (now graph) 0 0 (now marks) ⌝ }
-    ensures { λ r. ⌜ Tells r ((s : ℕ) → s < stops → FirstLink (shown (now (file .entry)) (now (graph .entry))) (now (graph .entry)) s) × (r ≡ true → Marks (shown (now (file .entry)) (now (graph .entry))) (now (graph .entry)) stops 0 (now (marks .exit))) ⌝ }
+    requires { ⌜ Timed (now file) stops n (now graph) × FirstsLinked (now file) (now graph) 0 (now marks) ⌝ }
+    ensures { λ r. ⌜ FirstsTold (now (file .entry)) (now (graph .entry)) stops r (now (marks .exit)) ⌝ }
 {
-    let mut s = 0;
-    while s < stops {
-        if !link_first(file, stops, n, graph, s, marks) {
+    let mut b = 0;
+    while b < stops {
+        if !link_first(file, stops, n, graph, b, marks) {
             return false;
         }
-        s += 1;
+        b += 1;
     }
     true
 }
 
 // Whether connection d departs after c: later, or in the same minute with a higher number.
 fn is_after(graph: &[u16], c: usize, d: usize) -> bool
-    requires { ⌜ (2 * c < length (now graph)) × (2 * d < length (now graph)) × (c < 65536) × (d < 65536) ⌝ }
+    requires { ⌜ (2 * c < length (now graph)) × (2 * d < length (now graph)) × (c < none) × (d < none) ⌝ }
     ensures { λ r. ⌜ r ≡ ltb (key (departureIn (now (graph .entry))) c) (key (departureIn (now (graph .entry))) d) ⌝ }
 {
     let own = entries::departure(graph, c);
@@ -78,8 +68,8 @@ fn is_after(graph: &[u16], c: usize, d: usize) -> bool
     c < d
 }
 
-// Whether the waiting entry of connection c is none or leaves from the same stop and after c; it is marked with c's departure,
-// or the stop is if there is none.
+// Whether the waiting entry of connection c is none or is on the same board and leaves after c; it is marked with c's departure,
+// or the board is if there is none.
 fn link_next(
     file: &[u8],
     stops: usize,
@@ -87,23 +77,23 @@ fn link_next(
     graph: &[u16],
     c: usize,
     marks: &mut [u16],
-    ends: &mut [u16],
+    lasts: &mut [u16],
 ) -> bool
-    requires { ⌜ Linking (now file) stops n (now graph) × (c < n) × Marks (shown (now file) (now graph)) (now graph) stops c (now marks) × Ends (shown (now file) (now graph)) (now graph) c (now ends) ⌝ }
-    ensures { λ r. ⌜ Tells r (NextLink (shown (now (file .entry)) (now (graph .entry))) (now (graph .entry)) c) × (r ≡ true → Marks (shown (now (file .entry)) (now (graph .entry))) (now (graph .entry)) stops (suc c) (now (marks .exit)) × Ends (shown (now (file .entry)) (now (graph .entry))) (now (graph .entry)) (suc c) (now (ends .exit))) ⌝ }
+    requires { ⌜ Timed (now file) stops n (now graph) × (c < n) × NextsLinked (now file) (now graph) stops c (now marks) (now lasts) ⌝ }
+    ensures { λ r. ⌜ NextTold (now (file .entry)) (now (graph .entry)) stops c r (now (marks .exit)) (now (lasts .exit)) ⌝ }
 {
-    let stop = timetable::from(file, stops, c);
+    let board = entries::board(file, stops, c);
     let departure = entries::departure(graph, c);
     let e = entries::waiting(graph, n, c);
-    if e == NONE {
-        ends[stop as usize] = departure + 1;
-        return true;
-    }
     let d = e as usize;
     if n <= d {
-        return false;
+        if e != model::NONE {
+            return false;
+        }
+        lasts[board as usize] = departure + 1;
+        return true;
     }
-    if timetable::from(file, stops, d) != stop {
+    if entries::board(file, stops, d) != board {
         return false;
     }
     if !is_after(graph, c, d) {
@@ -120,14 +110,14 @@ fn link_nexts(
     n: usize,
     graph: &[u16],
     marks: &mut [u16],
-    ends: &mut [u16],
+    lasts: &mut [u16],
 ) -> bool
-    requires { ⌜ Linking (now file) stops n (now graph) × Marks (shown (now file) (now graph)) (now graph) stops 0 (now marks) × Ends (shown (now file) (now graph)) (now graph) 0 (now ends) ⌝ }
-    ensures { λ r. ⌜ Tells r ((c : ℕ) → c < n → NextLink (shown (now (file .entry)) (now (graph .entry))) (now (graph .entry)) c) × (r ≡ true → Marks (shown (now (file .entry)) (now (graph .entry))) (now (graph .entry)) stops n (now (marks .exit)) × Ends (shown (now (file .entry)) (now (graph .entry))) (now (graph .entry)) n (now (ends .exit))) ⌝ }
+    requires { ⌜ Timed (now file) stops n (now graph) × NextsLinked (now file) (now graph) stops 0 (now marks) (now lasts) ⌝ }
+    ensures { λ r. ⌜ NextsTold (now (file .entry)) (now (graph .entry)) stops n r (now (marks .exit)) (now (lasts .exit)) ⌝ }
 {
     let mut c = 0;
     while c < n {
-        if !link_next(file, stops, n, graph, c, marks, ends) {
+        if !link_next(file, stops, n, graph, c, marks, lasts) {
             return false;
         }
         c += 1;
@@ -137,12 +127,12 @@ fn link_nexts(
 
 // Whether no mark is none.
 fn all_marked(marks: &[u16]) -> bool
-    ensures { λ r. ⌜ Tells r ((d : ℕ) → d < length (now (marks .entry)) → getD (now (marks .entry)) d 0 ≡ none → ⊥) ⌝ }
+    ensures { λ r. ⌜ Tells r (NoneMissed (now (marks .entry))) ⌝ }
 {
     let mut all = true;
     let mut d = 0;
     while d < marks.len() {
-        if marks[d] == NONE {
+        if marks[d] == model::NONE {
             all = false;
         }
         d += 1;
@@ -158,22 +148,22 @@ fn change_right(
     graph: &[u16],
     c: usize,
     marks: &[u16],
-    ends: &[u16],
+    lasts: &[u16],
 ) -> bool
-    requires { ⌜ Linking (now file) stops n (now graph) × (c < n) × Marks (shown (now file) (now graph)) (now graph) stops n (now marks) × Ends (shown (now file) (now graph)) (now graph) n (now ends) ⌝ }
-    ensures { λ r. ⌜ Tells r (ChangeLink (shown (now (file .entry)) (now (graph .entry))) (now (graph .entry)) (now (marks .entry)) (now (ends .entry)) c) ⌝ }
+    requires { ⌜ Timed (now file) stops n (now graph) × (c < n) × NextsLinked (now file) (now graph) stops n (now marks) (now lasts) ⌝ }
+    ensures { λ r. ⌜ ChangeTold (now (file .entry)) (now (graph .entry)) (now (marks .entry)) (now (lasts .entry)) c r ⌝ }
 {
     let stop = timetable::to(file, stops, c);
-    let ready = entries::arrival(graph, c) + timetable::transfer_time(file, stop as usize);
+    let ready = entries::ready(file, stops, graph, c);
     let e = entries::transfer(graph, n, c);
-    if e == NONE {
-        return ends[stop as usize] <= ready;
-    }
     let d = e as usize;
     if n <= d {
-        return false;
+        if e != model::NONE {
+            return false;
+        }
+        return lasts[stop as usize] <= ready;
     }
-    if timetable::from(file, stops, d) != stop {
+    if entries::board(file, stops, d) != stop {
         return false;
     }
     if entries::departure(graph, d) < ready {
@@ -189,14 +179,14 @@ fn changes_right(
     n: usize,
     graph: &[u16],
     marks: &[u16],
-    ends: &[u16],
+    lasts: &[u16],
 ) -> bool
-    requires { ⌜ Linking (now file) stops n (now graph) × Marks (shown (now file) (now graph)) (now graph) stops n (now marks) × Ends (shown (now file) (now graph)) (now graph) n (now ends) ⌝ }
-    ensures { λ r. ⌜ Tells r ((c : ℕ) → c < n → ChangeLink (shown (now (file .entry)) (now (graph .entry))) (now (graph .entry)) (now (marks .entry)) (now (ends .entry)) c) ⌝ }
+    requires { ⌜ Timed (now file) stops n (now graph) × NextsLinked (now file) (now graph) stops n (now marks) (now lasts) ⌝ }
+    ensures { λ r. ⌜ ChangesTold (now (file .entry)) (now (graph .entry)) (now (marks .entry)) (now (lasts .entry)) n r ⌝ }
 {
     let mut c = 0;
     while c < n {
-        if !change_right(file, stops, n, graph, c, marks, ends) {
+        if !change_right(file, stops, n, graph, c, marks, lasts) {
             return false;
         }
         c += 1;
@@ -204,36 +194,43 @@ fn changes_right(
     true
 }
 
-// The lists by marks that start as none and ends that start as 0.
+// The lists by marks of connections that start as none and marks of boards that start as 0.
 fn links_right(
     file: &[u8],
     stops: usize,
     n: usize,
     graph: &[u16],
     marks: &mut [u16],
-    ends: &mut [u16],
+    lasts: &mut [u16],
 ) -> bool
-    requires { ⌜ Linking (now file) stops n (now graph) × Marks (shown (now file) (now graph)) (now graph) 0 0 (now marks) × Ends (shown (now file) (now graph)) (now graph) 0 (now ends) ⌝ }
+    requires { ⌜ Timed (now file) stops n (now graph) × NextsLinked (now file) (now graph) 0 0 (now marks) (now lasts) ⌝ }
     ensures { λ r. ⌜ Tells r (ListsRight (shown (now (file .entry)) (now (graph .entry))) (now (graph .entry))) ⌝ }
 {
     if !link_firsts(file, stops, n, graph, marks) {
         return false;
     }
-    if !link_nexts(file, stops, n, graph, marks, ends) {
+    if !link_nexts(file, stops, n, graph, marks, lasts) {
         return false;
     }
     if !all_marked(marks) {
         return false;
     }
-    changes_right(file, stops, n, graph, marks, ends)
+    changes_right(file, stops, n, graph, marks, lasts)
 }
 
 // Whether the departure lists of a graph area are those of its times.
 pub fn lists_right(file: &[u8], stops: usize, n: usize, graph: &[u16]) -> bool
-    requires { ⌜ Linking (now file) stops n (now graph) ⌝ }
+    requires { ⌜ Timed (now file) stops n (now graph) ⌝ }
     ensures { λ r. ⌜ Tells r (ListsRight (shown (now (file .entry)) (now (graph .entry))) (now (graph .entry))) ⌝ }
 {
-    let mut marks = [NONE; MAX_CONNECTIONS];
-    let mut ends = [0u16; MAX_STOPS];
-    links_right(file, stops, n, graph, &mut marks[0..n], &mut ends[0..stops])
+    let mut marks = [model::NONE; timetable::MAX_CONNECTIONS];
+    let mut lasts = [0u16; timetable::MAX_STOPS];
+    links_right(
+        file,
+        stops,
+        n,
+        graph,
+        &mut marks[0..n],
+        &mut lasts[0..stops],
+    )
 }

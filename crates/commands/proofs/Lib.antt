@@ -1,9 +1,3 @@
-pub mod Tests
-pub mod Reading
-pub mod Digits
 pub mod Words
-pub mod Writing
-pub mod Signed
-pub mod Lengths
-pub mod Distinct
+pub mod Comparison
 pub mod Instances

@@ -5,6 +5,7 @@ use Prim.Native.Nat.{ℕ, _≤_}
 use native.Mathlib.Omega.{arith}
 use lib.ListN.{length, length-append, length-reverse}
 use Rattle.model.specs.Network.{Network}
+use Rattle.model.specs.Day.{Day, Areas}
 use Rattle.model.specs.Operations.{Arrival}
 use Rattle.model.specs.Meaning.{Journey}
 use Rattle.journeys.specs.Reading.{toldArrival}
@@ -13,8 +14,8 @@ use Rattle.journeys.specs.declared.Enquired.the-variants.{Arrives}
 use Rattle.search.specs.Answered.{Answered}
 
 -- an area keeps its length
-abbrev pub Kept : List ℕ → List ℕ → Type 0
-Kept before after = length after ≡ length before
+abbrev pub SameLength : List ℕ → List ℕ → Type 0
+SameLength before after = length after ≡ length before
 
 -- a journey has at most as many connections as its area has numbers
 pub journey-fits : {net : Network} {a b t : ℕ} {before after : List ℕ} {v : Arrival} → Journey net a b t before after v
@@ -22,7 +23,7 @@ pub journey-fits : {net : Network} {a b t : ℕ} {before after : List ℕ} {v : 
 journey-fits j = omega (arith, j .count, simp (length-append, length-reverse) at (ap length (j .written)))
 
 -- the count that an enquiry answers is at most as large
-pub answer-fits : {f notices graph work₀ journey₀ work journey : List ℕ} {a b t : ℕ} {answer : Enquired} {time count : ℕ}
-    → Answered f notices graph work₀ journey₀ a b t (toldArrival answer) work journey → answer ≡ Arrives time count → count ≤ length journey
+pub answer-fits : {day : Day} {areas : Areas} {work₀ journey₀ work journey : List ℕ} {a b t : ℕ} {answer : Enquired} {time count : ℕ}
+    → Answered day areas work₀ journey₀ a b t (toldArrival answer) work journey → answer ≡ Arrives time count → count ≤ length journey
 answer-fits {time = time} {count = count} h e =
     journey-fits (h .means .answered (record { time = time; connections = count }) (ap toldArrival e))

@@ -2,7 +2,7 @@
 use mathlib.Core.List.{List}
 use Prim.Native.Nat.{ℕ, _≤_}
 use lib.ListN.{length}
-use Rattle.commands.specs.Room.{lineRoom, arrivalRoom}
+use Rattle.lines.specs.Room.{lineRoom, arrivalRoom}
 
 -- an area with room for a line without a journey
 abbrev pub LineRoom : List ℕ → Type 0

@@ -1,4 +1,5 @@
 // The desk: the timetable from the file day.ttg, then the commands from standard input, each with its answer.
+ghost use mathlib.Core.Path.{_≡_};
 ghost use Prim.Native.Nat.{_≤_};
 ghost use lib.ListN.{length};
 ghost use Rattle.console.specs.Room.{LineRoom, OutRoom};
@@ -14,23 +15,29 @@ use timetable::Checked;
 const UNREADABLE: u16 = 18;
 
 // Room for the file: one byte more than the longest timetable has.
-const FILE_ROOM: usize = 21010;
-
-// The lengths of the areas: notices, graph, and one number for each connection.
-const NOTICES_LENGTH: usize = 601;
-
-const GRAPH_LENGTH: usize = 8500;
-
-const CONNECTIONS: usize = 2000;
+const FILE_ROOM: usize = timetable::HEADER_LENGTH
+    + 2 * timetable::MAX_STOPS
+    + timetable::CONNECTION_LENGTH * timetable::MAX_CONNECTIONS
+    + 1;
 
 // Room for the longest answer, a journey's.
-const OUT_ROOM: usize = 12017;
+const OUT_ROOM: usize = lines::EMPTY_JOURNEY_ROOM
+    + lines::CONNECTION_ROOM * timetable::MAX_CONNECTIONS;
 
 // Room for a line: one byte more than a command may have.
-const LINE_ROOM: usize = 65;
+const LINE_ROOM: usize = commands::MAX_LINE + 1;
 
 // Room for a block of the input.
 const BLOCK_ROOM: usize = 65536;
+
+// The input: where the bytes of the block that are not taken yet start and end, how many bytes the line has that is taken,
+// and whether standard input is at its end.
+pub struct Input {
+    pub at: usize,
+    pub end: usize,
+    pub held: usize,
+    pub over: bool,
+}
 
 // What fd holds, into file as far as it has room; how many bytes, and 0 where it cannot be read.
 fn read_file(fd: i32, file: &mut [u8]) -> usize
@@ -69,7 +76,7 @@ fn refuse(refusal: u16, place: u16, out: &mut [u8]) -> usize
     requires { ⌜ LineRoom (now out) ⌝ }
     ensures { λ r. ⌜ r ≤ length (now (out .exit)) ⌝ }
 {
-    commands::write_refusal(refusal, place, out)
+    lines::write_refusal(refusal, place, out)
 }
 
 // Posts a notice; the length of the answer, which stands at the front of out.
@@ -87,7 +94,7 @@ fn post(
 {
     let noted = graph::post(file, notices, graph, number, connection, delay);
     match noted {
-        Noted::Accepted(posted) => commands::write_posted(posted, out),
+        Noted::Accepted(posted) => lines::write_posted(posted, out),
         Noted::Refused(refusal, place) => refuse(refusal, place, out),
     }
 }
@@ -105,7 +112,7 @@ fn withdraw(
 {
     let noted = graph::withdraw(file, notices, graph, number);
     match noted {
-        Noted::Accepted(withdrawn) => commands::write_withdrawn(withdrawn, out),
+        Noted::Accepted(withdrawn) => lines::write_withdrawn(withdrawn, out),
         Noted::Refused(refusal, place) => refuse(refusal, place, out),
     }
 }
@@ -128,7 +135,7 @@ fn enquire(
     let enquired = search::enquire(file, notices, graph, work, journey, from, to, time);
     match enquired {
         Enquired::Arrives(arrival, count) => {
-            commands::write_arrival(arrival, &journey[0..count as usize], out)
+            lines::write_arrival(arrival, &journey[0..count as usize], out)
         }
         Enquired::Refused(refusal, place) => refuse(refusal, place, out),
     }
@@ -148,7 +155,7 @@ fn margin(
 {
     let margined = search::margin(file, notices, graph, connection, next);
     match margined {
-        Margined::Minutes(minutes) => commands::write_margin(minutes, out),
+        Margined::Minutes(minutes) => lines::write_margin(minutes, out),
         Margined::Refused(refusal, place) => refuse(refusal, place, out),
     }
 }
@@ -208,96 +215,55 @@ fn keep(line: &mut [u8], held: usize, byte: u8) -> usize
     held
 }
 
-// Takes one byte of the input; a newline ends its line, which is answered. How many bytes the line under way has.
-fn take_byte(
-    file: &[u8],
-    notices: &mut [u16],
-    graph: &mut [u16],
-    work: &mut [u16],
-    journey: &mut [u16],
-    out: &mut [u8],
-    line: &mut [u8],
-    held: usize,
-    byte: u8,
-) -> usize
-    requires { ⌜ OutRoom (now journey) (now out) × (held ≤ length (now line)) ⌝ }
-    ensures { λ r. ⌜ r ≤ length (now (line .exit)) ⌝ }
+// The input with a block that has a byte, unless standard input is at its end.
+fn refill(block: &mut [u8], input: Input) -> Input
+    requires { ⌜ input .end ≤ length (now block) ⌝ }
+    ensures { λ r. ⌜ (r .end ≤ length (now (block .exit))) × (r .held ≡ input .held) ⌝ }
 {
-    let n = keep(line, held, byte);
-    if byte != b'\n' {
-        return n;
+    if input.at < input.end {
+        return input;
     }
-    answer(file, notices, graph, work, journey, out, &line[0..n]);
-    0
-}
-
-// Takes the bytes of a block. How many bytes the line under way has.
-fn take_block(
-    file: &[u8],
-    notices: &mut [u16],
-    graph: &mut [u16],
-    work: &mut [u16],
-    journey: &mut [u16],
-    out: &mut [u8],
-    line: &mut [u8],
-    held: usize,
-    block: &[u8],
-) -> usize
-    requires { ⌜ OutRoom (now journey) (now out) × (held ≤ length (now line)) ⌝ }
-    ensures { λ r. ⌜ r ≤ length (now (line .exit)) ⌝ }
-{
-    let mut n = held;
-    let mut i = 0;
-    while i < block.len() {
-        n = take_byte(file, notices, graph, work, journey, out, line, n, block[i]);
-        i += 1;
+    if input.over {
+        return input;
     }
-    n
-}
-
-// The next block of standard input; how many bytes it has, 0 at the end.
-fn read_block(block: &mut [u8]) -> usize
-    ensures { λ r. ⌜ r ≤ length (now (block .exit)) ⌝ }
-{
     let got = libc::read(STDIN_FILENO, block);
-    io::count(got, block)
+    let end = io::count(got, block);
+    Input {
+        at: 0,
+        end,
+        held: input.held,
+        over: end == 0,
+    }
 }
 
-// Takes the whole input, block by block. How many bytes its last line has, if no newline ends it.
-fn take_blocks(
-    file: &[u8],
-    notices: &mut [u16],
-    graph: &mut [u16],
-    work: &mut [u16],
-    journey: &mut [u16],
-    out: &mut [u8],
-    line: &mut [u8],
-    block: &mut [u8],
-) -> usize
-    requires { ⌜ OutRoom (now journey) (now out) ⌝ }
-    ensures { λ r. ⌜ r ≤ length (now (line .exit)) ⌝ }
+// The input with the next line taken, as far as there is room for a line, its newline with it. A line of no byte: the input
+// is at its end.
+fn take_line(line: &mut [u8], block: &mut [u8], input: Input) -> Input
+    requires { ⌜ input .end ≤ length (now block) ⌝ }
+    ensures { λ r. ⌜ (r .end ≤ length (now (block .exit))) × (r .held ≤ length (now (line .exit))) ⌝ }
 {
-    let mut held = 0;
+    let mut now = Input {
+        at: input.at,
+        end: input.end,
+        held: 0,
+        over: input.over,
+    };
     let mut left = u64::MAX;
     while left > 0 {
-        let got = read_block(block);
-        if got == 0 {
-            return held;
+        now = refill(block, now);
+        let at = now.at;
+        if now.end <= at {
+            return now;
         }
-        held = take_block(
-            file,
-            notices,
-            graph,
-            work,
-            journey,
-            out,
-            line,
-            held,
-            &block[0..got],
-        );
+        let byte = block[at];
+        now.at = at + 1;
+        now.held = keep(line, now.held, byte);
+        if byte == b'\n' {
+            return now;
+        }
         left -= 1;
     }
-    held
+    now
 }
 
 // Answers each line of standard input, the last one too if no newline ends it.
@@ -313,35 +279,22 @@ fn work_lines(
 )
     requires { ⌜ OutRoom (now journey) (now out) ⌝ }
 {
-    let held = take_blocks(file, notices, graph, work, journey, out, line, block);
-    if held > 0 {
+    let mut input = Input {
+        at: 0,
+        end: 0,
+        held: 0,
+        over: false,
+    };
+    let mut left = u64::MAX;
+    while left > 0 {
+        input = take_line(line, block, input);
+        let held = input.held;
+        if held == 0 {
+            return;
+        }
         answer(file, notices, graph, work, journey, out, &line[0..held]);
+        left -= 1;
     }
-}
-
-// Answers each line of standard input, with room for a line and a block.
-fn work_input(
-    file: &[u8],
-    notices: &mut [u16],
-    graph: &mut [u16],
-    work: &mut [u16],
-    journey: &mut [u16],
-    out: &mut [u8],
-)
-    requires { ⌜ OutRoom (now journey) (now out) ⌝ }
-{
-    let mut line = [0u8; LINE_ROOM];
-    let mut block = [0u8; BLOCK_ROOM];
-    work_lines(
-        file,
-        notices,
-        graph,
-        work,
-        journey,
-        out,
-        &mut line,
-        &mut block,
-    );
 }
 
 // The line of the building's answer: the counts or the refusal; its length.
@@ -350,7 +303,7 @@ fn built_line(checked: Checked, out: &mut [u8]) -> usize
     ensures { λ r. ⌜ r ≤ length (now (out .exit)) ⌝ }
 {
     match checked {
-        Checked::Accepted(stops, connections) => commands::write_counts(stops, connections, out),
+        Checked::Accepted(stops, connections) => lines::write_counts(stops, connections, out),
         Checked::Refused(refusal, place) => refuse(refusal, place, out),
     }
 }
@@ -363,40 +316,40 @@ fn print_built(checked: Checked, out: &mut [u8])
     io::write_all(STDOUT_FILENO, &out[0..n]);
 }
 
-// Builds and prints the counts or the refusal; a timetable that is accepted is worked with.
-fn open(
-    file: &[u8],
-    notices: &mut [u16],
-    graph: &mut [u16],
-    work: &mut [u16],
-    journey: &mut [u16],
-    out: &mut [u8],
-)
-    requires { ⌜ OutRoom (now journey) (now out) ⌝ }
+// Builds and prints the counts or the refusal; whether the timetable is accepted.
+fn open(file: &[u8], notices: &mut [u16], graph: &mut [u16], out: &mut [u8]) -> bool
+    requires { ⌜ LineRoom (now out) ⌝ }
 {
     let checked = graph::build(file, notices, graph);
     print_built(checked, out);
-    let Checked::Accepted(_, _) = checked else {
-        return;
-    };
-    work_input(file, notices, graph, work, journey, out);
+    match checked {
+        Checked::Accepted(_, _) => true,
+        Checked::Refused(_, _) => false,
+    }
 }
 
 // The whole desk.
 pub fn run() {
     let mut file = [0u8; FILE_ROOM];
     let n = load(&mut file);
-    let mut notices = [0u16; NOTICES_LENGTH];
-    let mut graph = [0u16; GRAPH_LENGTH];
-    let mut work = [0u16; CONNECTIONS];
-    let mut journey = [0u16; CONNECTIONS];
+    let mut notices = [0u16; model::NOTICES_LENGTH];
+    let mut graph = [0u16; model::MOST_GRAPH];
     let mut out = [0u8; OUT_ROOM];
-    open(
+    if !open(&file[0..n], &mut notices, &mut graph, &mut out) {
+        return;
+    }
+    let mut work = [0u16; timetable::MAX_CONNECTIONS];
+    let mut journey = [0u16; timetable::MAX_CONNECTIONS];
+    let mut line = [0u8; LINE_ROOM];
+    let mut block = [0u8; BLOCK_ROOM];
+    work_lines(
         &file[0..n],
         &mut notices,
         &mut graph,
         &mut work,
         &mut journey,
         &mut out,
+        &mut line,
+        &mut block,
     );
 }

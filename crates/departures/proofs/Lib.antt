@@ -1,5 +1,4 @@
 pub mod Stores
 pub mod Counts
 pub mod Sorting
-pub mod Places
-pub mod Turns
+pub mod Filling

@@ -1,3 +1,3 @@
 pub mod Order
 pub mod Counts
-pub mod Listed
+pub mod Events

@@ -1,1 +1,1 @@
-pub mod Ends
+pub mod Fronts

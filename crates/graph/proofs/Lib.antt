@@ -1,2 +1,2 @@
 pub mod Passed
-pub mod Outcomes
+pub mod Calls

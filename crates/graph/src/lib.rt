@@ -1,22 +1,35 @@
-// The operations that write: building, posting and withdrawing.
+// The graph layer: it checks, builds and updates the graph and the notices. What the search needs of it, it offers here: the checks
+// of handed-in areas, the readers of the graph area's entries and the order of departures.
 ghost use mathlib.Core.Path.{_≡_};
-ghost use mathlib.Core.List.{[], _++_};
-ghost use Prim.Native.Nat.{ℕ, _≤_};
-ghost use lib.ListN.{length, drop};
+ghost use mathlib.Core.List.{[]};
+ghost use Prim.Native.Nat.{ℕ};
 ghost use Rattle.timetable.specs.Answers.{refused};
-ghost use Rattle.timetable.specs.File.{connections};
 ghost use Rattle.timetable.specs.Accepted.{Opened};
 ghost use Rattle.timetable.specs.Check.{toldCounts};
 ghost use Rattle.timetable.specs.declared.Verdict.the-variants.{Passed};
-ghost use Rattle.model.specs.Notices.{notice, rowsOf, entered, struck};
-ghost use Rattle.model.specs.Operations.{graphLength, graphFor, lengthsVerdict, outcome, built, posted, withdrawn};
+ghost use Rattle.model.specs.Notices.{areaWith, rowsOf, Standing};
+ghost use Rattle.model.specs.Day.{dayOf, lent};
+ghost use Rattle.model.specs.Parts.{askedVerdict, roomVerdict};
+ghost use Rattle.model.specs.Operations.{outcome, written, built, posted, withdrawn};
 ghost use Rattle.model.specs.Ready.{Ready};
-ghost use Rattle.times.specs.Times.{Standing};
 ghost use Rattle.graph.specs.Answers.{toldNumber};
-ghost use Rattle.checks.specs.Verdicts.{postingVerdict, withdrawalVerdict};
-ghost use Rattle.graph.specs.Written.{Written};
+ghost use Rattle.graph.specs.Call.{asksOf, standingAfter, numberIn, calledBy};
 use timetable::Checked;
 use timetable::Verdict;
+
+// The checks of both areas, alone and after the file's.
+pub use checks::contents_verdict;
+pub use checks::examine;
+pub use checks::room_verdict;
+
+// The entries of the graph area.
+pub use entries::arrival;
+pub use entries::departure;
+pub use entries::transfer;
+pub use entries::waiting;
+
+// The connections in the order of departure.
+pub use departures::order_departures;
 
 // The answer of a posting or a withdrawal: the notice's number, or the refusal's number and place.
 pub enum Noted {
@@ -24,58 +37,82 @@ pub enum Noted {
     Refused(u16, u16),
 }
 
-// The graph with the notices that stand.
-fn draw(file: &[u8], stops: usize, n: usize, notices: &[u16], graph: &mut [u16])
-    requires { ⌜ Opened (now file) stops n × Standing (now file) (now notices) × (graphLength (now file) ≤ length (now graph)) ⌝ }
-    ensures { λ _. ⌜ now (graph .exit) ≡ graphFor (now (file .entry)) (rowsOf (now (notices .entry))) ++ drop (graphLength (now (file .entry))) (now (graph .entry)) ⌝ }
-{
-    area::fill_graph(file, stops, n, notices, graph);
+// A posting with number, connection and delay, or a withdrawal of a number.
+pub enum Call {
+    Post(u16, u16, u16),
+    Withdraw(u16),
 }
 
 // No notice stands, and the graph says so.
 fn clear_all(file: &[u8], stops: usize, n: usize, notices: &mut [u16], graph: &mut [u16])
-    requires { ⌜ Opened (now file) stops n × (lengthsVerdict (now file) (now notices) (now graph) ≡ Passed) ⌝ }
-    ensures { λ _. ⌜ Written (now (file .entry)) (now (notices .entry)) (now (graph .entry)) [] (now (notices .exit)) (now (graph .exit)) ⌝ }
+    requires { ⌜ Opened (now file) stops n × (roomVerdict (dayOf (now file)) (lent (now notices) (now graph)) ≡ Passed) ⌝ }
+    ensures { λ _.
+        ⌜ lent (now (notices .exit)) (now (graph .exit))
+        ≡ written (dayOf (now (file .entry))) (lent (now (notices .entry)) (now (graph .entry))) [] ⌝ }
 {
     notices::clear_rows(notices);
-    draw(file, stops, n, notices, graph);
+    drawing::fill_graph(file, stops, n, notices, graph);
 }
 
-// A notice entered, and the graph with it.
-fn enter_all(
+// Whether a call passes what it asks of its own numbers, by the notices that stand.
+fn call_verdict(notices: &[u16], n: u16, call: Call) -> Verdict
+    requires { ⌜ ((C : ℕ) × Standing C (now notices)) ⌝ }
+    ensures { λ r. ⌜ r ≡ askedVerdict (rowsOf (now (notices .entry))) (asksOf n call) ⌝ }
+{
+    match call {
+        Call::Post(number, connection, delay) => {
+            checks::posting_verdict(notices, n, number, connection, delay)
+        }
+        Call::Withdraw(number) => checks::withdrawal_verdict(notices, number),
+    }
+}
+
+// The notice of a call entered or struck out.
+fn note_call(notices: &mut [u16], n: u16, call: Call)
+    requires { ⌜ Standing n (now notices) × (askedVerdict (rowsOf (now notices)) (asksOf n call) ≡ Passed) ⌝ }
+    ensures { λ _. ⌜ now (notices .exit) ≡ areaWith (standingAfter call (rowsOf (now (notices .entry)))) (now (notices .entry)) ⌝ }
+{
+    match call {
+        Call::Post(number, connection, delay) => {
+            notices::enter(notices, number, connection, delay);
+        }
+        Call::Withdraw(number) => {
+            notices::strike(notices, number);
+        }
+    }
+}
+
+// The number of a call's notice.
+fn number_of(call: Call) -> u16
+    ensures { λ r. ⌜ r ≡ numberIn call ⌝ }
+{
+    match call {
+        Call::Post(number, _, _) => number,
+        Call::Withdraw(number) => number,
+    }
+}
+
+// A call worked in an accepted timetable whose areas are right: the notice, and the graph with it.
+fn work_call(
     file: &[u8],
-    stops: usize,
-    n: usize,
+    stops: u16,
+    connections: u16,
     notices: &mut [u16],
     graph: &mut [u16],
-    number: u16,
-    connection: u16,
-    delay: u16,
+    call: Call,
 )
-    requires { ⌜ Opened (now file) stops n × Ready (now file) (now notices) (now graph) × (postingVerdict (connections (now file)) (rowsOf (now notices)) number connection delay ≡ Passed) ⌝ }
-    ensures { λ _. ⌜ Written (now (file .entry)) (now (notices .entry)) (now (graph .entry)) (entered (notice number connection delay) (rowsOf (now (notices .entry)))) (now (notices .exit)) (now (graph .exit)) ⌝ }
+    requires { ⌜ Opened (now file) stops connections × Ready (dayOf (now file)) (lent (now notices) (now graph)) ⌝ }
+    requires { ⌜ askedVerdict (rowsOf (now notices)) (asksOf connections call) ≡ Passed ⌝ }
+    ensures { λ _.
+        ⌜ lent (now (notices .exit)) (now (graph .exit))
+        ≡ written (dayOf (now (file .entry))) (lent (now (notices .entry)) (now (graph .entry)))
+        (standingAfter call (rowsOf (now (notices .entry)))) ⌝ }
 {
-    notices::enter(notices, number, connection, delay);
-    draw(file, stops, n, notices, graph);
+    note_call(notices, connections, call);
+    drawing::fill_graph(file, stops as usize, connections as usize, notices, graph);
 }
 
-// A notice struck out, and the graph without it.
-fn strike_all(
-    file: &[u8],
-    stops: usize,
-    n: usize,
-    notices: &mut [u16],
-    graph: &mut [u16],
-    number: u16,
-)
-    requires { ⌜ Opened (now file) stops n × Ready (now file) (now notices) (now graph) × (withdrawalVerdict (rowsOf (now notices)) number ≡ Passed) ⌝ }
-    ensures { λ _. ⌜ Written (now (file .entry)) (now (notices .entry)) (now (graph .entry)) (struck number (rowsOf (now (notices .entry)))) (now (notices .exit)) (now (graph .exit)) ⌝ }
-{
-    notices::strike(notices, number);
-    draw(file, stops, n, notices, graph);
-}
-
-// The refusal of a file, as the answer of a posting or a withdrawal.
+// The refusal of a file or of the areas, as the answer of a posting or a withdrawal.
 fn refused(checked: Checked) -> Noted
     ensures { λ r. ⌜ ((n p : ℕ) → toldCounts checked ≡ refused n p → toldNumber r ≡ refused n p) ⌝ }
 {
@@ -87,13 +124,15 @@ fn refused(checked: Checked) -> Noted
 
 // An empty notice area and the graph without notices.
 pub fn build(file: &[u8], notices: &mut [u16], graph: &mut [u16]) -> Checked
-    ensures { λ r. ⌜ outcome (toldCounts r) (now (notices .exit)) (now (graph .exit)) ≡ built (now (file .entry)) (now (notices .entry)) (now (graph .entry)) ⌝ }
+    ensures { λ r.
+        ⌜ outcome (toldCounts r) (lent (now (notices .exit)) (now (graph .exit)))
+        ≡ built (dayOf (now (file .entry))) (lent (now (notices .entry)) (now (graph .entry))) ⌝ }
 {
     let checked = timetable::check(file);
     let Checked::Accepted(stops, connections) = checked else {
         return checked;
     };
-    let verdict = checks::lengths_verdict(file, notices, graph);
+    let verdict = room_verdict(file, notices, graph);
     match verdict {
         Verdict::Refused(number, place) => {
             return Checked::Refused(number, place);
@@ -106,6 +145,27 @@ pub fn build(file: &[u8], notices: &mut [u16], graph: &mut [u16]) -> Checked
     Checked::Accepted(stops, connections)
 }
 
+// A call: the notices that stand, and the graph with them.
+fn update(file: &[u8], notices: &mut [u16], graph: &mut [u16], call: Call) -> Noted
+    ensures { λ r.
+        ⌜ outcome (toldNumber r) (lent (now (notices .exit)) (now (graph .exit)))
+        ≡ calledBy (dayOf (now (file .entry))) (lent (now (notices .entry)) (now (graph .entry))) call ⌝ }
+{
+    let examined = examine(file, notices, graph);
+    let Checked::Accepted(stops, connections) = examined else {
+        return refused(examined);
+    };
+    let verdict = call_verdict(notices, connections, call);
+    match verdict {
+        Verdict::Refused(refusal, place) => {
+            return Noted::Refused(refusal, place);
+        }
+        Verdict::Passed => {}
+    }
+    work_call(file, stops, connections, notices, graph, call);
+    Noted::Accepted(number_of(call))
+}
+
 // A notice posted.
 pub fn post(
     file: &[u8],
@@ -115,56 +175,18 @@ pub fn post(
     connection: u16,
     delay: u16,
 ) -> Noted
-    ensures { λ r. ⌜ outcome (toldNumber r) (now (notices .exit)) (now (graph .exit)) ≡ posted (now (file .entry)) (now (notices .entry)) (now (graph .entry)) number connection delay ⌝ }
+    ensures { λ r.
+        ⌜ outcome (toldNumber r) (lent (now (notices .exit)) (now (graph .exit)))
+        ≡ posted (dayOf (now (file .entry))) (lent (now (notices .entry)) (now (graph .entry))) number connection delay ⌝ }
 {
-    let checked = timetable::check(file);
-    let Checked::Accepted(stops, connections) = checked else {
-        return refused(checked);
-    };
-    let areas = checks::areas_verdict(file, notices, graph);
-    match areas {
-        Verdict::Refused(refusal, place) => {
-            return Noted::Refused(refusal, place);
-        }
-        Verdict::Passed => {}
-    }
-    let verdict = checks::posting_verdict(notices, connections, number, connection, delay);
-    match verdict {
-        Verdict::Refused(refusal, place) => {
-            return Noted::Refused(refusal, place);
-        }
-        Verdict::Passed => {}
-    }
-    let s = stops as usize;
-    let n = connections as usize;
-    enter_all(file, s, n, notices, graph, number, connection, delay);
-    Noted::Accepted(number)
+    update(file, notices, graph, Call::Post(number, connection, delay))
 }
 
 // A notice withdrawn.
 pub fn withdraw(file: &[u8], notices: &mut [u16], graph: &mut [u16], number: u16) -> Noted
-    ensures { λ r. ⌜ outcome (toldNumber r) (now (notices .exit)) (now (graph .exit)) ≡ withdrawn (now (file .entry)) (now (notices .entry)) (now (graph .entry)) number ⌝ }
+    ensures { λ r.
+        ⌜ outcome (toldNumber r) (lent (now (notices .exit)) (now (graph .exit)))
+        ≡ withdrawn (dayOf (now (file .entry))) (lent (now (notices .entry)) (now (graph .entry))) number ⌝ }
 {
-    let checked = timetable::check(file);
-    let Checked::Accepted(stops, connections) = checked else {
-        return refused(checked);
-    };
-    let areas = checks::areas_verdict(file, notices, graph);
-    match areas {
-        Verdict::Refused(refusal, place) => {
-            return Noted::Refused(refusal, place);
-        }
-        Verdict::Passed => {}
-    }
-    let verdict = checks::withdrawal_verdict(notices, number);
-    match verdict {
-        Verdict::Refused(refusal, place) => {
-            return Noted::Refused(refusal, place);
-        }
-        Verdict::Passed => {}
-    }
-    let s = stops as usize;
-    let n = connections as usize;
-    strike_all(file, s, n, notices, graph, number);
-    Noted::Accepted(number)
+    update(file, notices, graph, Call::Withdraw(number))
 }

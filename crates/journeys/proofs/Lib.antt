@@ -1,3 +1,3 @@
 pub mod Trail
-pub mod Search
+pub mod Last
 pub mod Reading

@@ -14,7 +14,7 @@ use Rattle.model.specs.Least.{none}
 use Rattle.model.specs.Network.{Network, Sound}
 use Rattle.model.specs.Predecessors.{predecessors, follow}
 use Rattle.model.proofs.Lists.{inside}
-use Rattle.model.proofs.Tests.{by-eq}
+use Rattle.model.proofs.ByCases.{by-eq}
 use Rattle.model.proofs.Rank.{rank-below}
 use Rattle.model.proofs.Rounds.{length-predecessors}
 use Rattle.model.proofs.Journeys.{pred, place, Entry, itself, lowest, nothing, entry, later-place}

@@ -1,14 +1,11 @@
--- The answer of an enquiry, and what reading its journey out of the predecessors asks and gives. Assumes nothing.
-use mathlib.Core.Path.{_≡_}
+-- The answer of an enquiry, and what reading its journey out of the predecessors gives. Assumes nothing.
 use mathlib.Core.List.{List}
-use Prim.Native.Nat.{ℕ, _≤_}
-use lib.ListN.{length, take}
+use Prim.Native.Nat.{ℕ}
+use lib.ListN.{take}
 use Rattle.timetable.specs.Answers.{Answer, accepted, refused}
-use Rattle.timetable.specs.File.{connections}
 use Rattle.model.specs.Network.{Network}
-use Rattle.model.specs.Predecessors.{predecessors, nowhere, journeyIn}
+use Rattle.model.specs.Predecessors.{nowhere, journeyIn}
 use Rattle.model.specs.Operations.{Arrival, Enquiry, answered}
-use Rattle.model.specs.Shown.{shown, Readable}
 use Rattle.journeys.specs.declared.Enquired.{Enquired}
 use Rattle.journeys.specs.declared.Enquired.the-variants.{Arrives, Refused}
 
@@ -22,9 +19,3 @@ abbrev pub readOut : Network → List ℕ → List ℕ → ℕ → ℕ → ℕ �
 readOut net work journey a b t =
     let w = take (net .connections) work in
     answered (nowhere net w a b) net t (journeyIn net w a b) work journey
-
--- areas that can be read, the predecessors of an enquiry from stop a at time t in the work area, and room for the journey
-pub record Reading (f graph work journey : List ℕ) (a t : ℕ) : Type 0 where
-  pub readable : Readable f graph
-  pub filled : take (connections f) work ≡ predecessors (shown f graph) a t
-  pub room : connections f ≤ length journey

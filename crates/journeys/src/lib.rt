@@ -2,24 +2,19 @@
 // order of travel.
 ghost use mathlib.Core.Path.{_≡_};
 ghost use mathlib.Core.Bool.{_&&_};
-ghost use mathlib.Core.List.{_++_, reverse};
 ghost use Prim.Native.Nat.{_+_, _<_, _≤_};
 ghost use lib.Dec.{eqb};
-ghost use lib.ListN.{length, drop};
-ghost use Rattle.timetable.specs.File.{to};
+ghost use lib.ListN.{length, take};
+ghost use Rattle.timetable.specs.File.{connections, to};
 ghost use Rattle.timetable.specs.Room.{HasConnection};
-ghost use Rattle.model.specs.Predecessors.{reachedIn, lastTo, follow};
+ghost use Rattle.model.specs.Predecessors.{predecessors, reachedIn, lastTo};
 ghost use Rattle.model.specs.Operations.{enquiry};
-ghost use Rattle.model.specs.Shown.{shown};
-ghost use Rattle.journeys.specs.Trail.{Trail};
-ghost use Rattle.journeys.specs.Search.{Searched, Turn, Better};
-ghost use Rattle.journeys.specs.Reading.{toldArrival, readOut, Reading};
-
-// No connection.
-const NONE: u16 = 65535;
-
-// The refusal where there is no journey.
-const UNREACHABLE: u16 = 30;
+ghost use Rattle.model.specs.Shown.{shown, Readable};
+ghost use Rattle.journeys.specs.Trail.{journeyTo, Trail, JourneyWritten};
+ghost use Rattle.journeys.specs.Last.{Better};
+ghost use Rattle.journeys.specs.Reading.{toldArrival, readOut};
+use model::NONE;
+use model::refusal;
 
 // The answer of an enquiry: arrival and how many connections, or the refusal's number and place.
 pub enum Enquired {
@@ -48,8 +43,9 @@ fn better(
     c: usize,
     stop: u16,
 ) -> u16
-    requires { ⌜ Turn (now file) (now graph) (now predecessors) stops best c stop ⌝ }
-    ensures { λ r. ⌜ Better (now (file .entry)) (now (graph .entry)) (now (predecessors .entry)) stop (c + 1) r ⌝ }
+    requires { ⌜ Readable (now file) (now graph) × (length (now predecessors) ≡ connections (now file)) ⌝ }
+    requires { ⌜ HasConnection (now file) stops c × Better (shown (now file) (now graph)) (now predecessors) stop c best ⌝ }
+    ensures { λ r. ⌜ Better (shown (now (file .entry)) (now (graph .entry))) (now (predecessors .entry)) stop (c + 1) r ⌝ }
 {
     if !arrives_at(file, predecessors, stops, c, stop) {
         return best;
@@ -58,7 +54,7 @@ fn better(
         return c as u16;
     }
     let r = best as usize;
-    if entries::arrival(graph, c) < entries::arrival(graph, r) {
+    if graph::arrival(graph, c) < graph::arrival(graph, r) {
         return c as u16;
     }
     best
@@ -66,7 +62,7 @@ fn better(
 
 // The last connection of the journey to a stop, or none.
 fn find_last(file: &[u8], graph: &[u16], predecessors: &[u16], stop: u16) -> u16
-    requires { ⌜ Searched (now file) (now graph) (now predecessors) ⌝ }
+    requires { ⌜ Readable (now file) (now graph) × (length (now predecessors) ≡ connections (now file)) ⌝ }
     ensures { λ r. ⌜ r ≡ lastTo (shown (now (file .entry)) (now (graph .entry))) (now (predecessors .entry)) stop ⌝ }
 {
     let stops = timetable::stops(file) as usize;
@@ -82,7 +78,7 @@ fn find_last(file: &[u8], graph: &[u16], predecessors: &[u16], stop: u16) -> u16
 // How many connections the journey has that ends with last.
 fn journey_length(predecessors: &[u16], last: u16) -> usize
     requires { ⌜ Trail (now predecessors) last ⌝ }
-    ensures { λ r. ⌜ r ≡ length (follow (now (predecessors .entry)) (length (now (predecessors .entry))) last) ⌝ }
+    ensures { λ r. ⌜ r ≡ length (journeyTo (now (predecessors .entry)) last) ⌝ }
 {
     let mut k = 1;
     let mut c = last;
@@ -97,7 +93,7 @@ fn journey_length(predecessors: &[u16], last: u16) -> usize
 // it has.
 fn write_journey(predecessors: &[u16], journey: &mut [u16], last: u16) -> usize
     requires { ⌜ Trail (now predecessors) last × (length (now predecessors) ≤ length (now journey)) ⌝ }
-    ensures { λ r. ⌜ (r ≡ length (follow (now (predecessors .entry)) (length (now (predecessors .entry))) last)) × (now (journey .exit) ≡ reverse (follow (now (predecessors .entry)) (length (now (predecessors .entry))) last) ++ drop r (now (journey .entry))) ⌝ }
+    ensures { λ r. ⌜ JourneyWritten (now (predecessors .entry)) last (now (journey .entry)) r (now (journey .exit)) ⌝ }
 {
     let k = journey_length(predecessors, last);
     let mut i = k;
@@ -121,8 +117,11 @@ pub fn read_journey(
     to: u16,
     time: u16,
 ) -> Enquired
-    requires { ⌜ Reading (now file) (now graph) (now work) (now journey) from time ⌝ }
-    ensures { λ r. ⌜ enquiry (toldArrival r) (now (work .entry)) (now (journey .exit)) ≡ readOut (shown (now (file .entry)) (now (graph .entry))) (now (work .entry)) (now (journey .entry)) from to time ⌝ }
+    requires { ⌜ Readable (now file) (now graph) × (connections (now file) ≤ length (now journey)) ⌝ }
+    requires { ⌜ take (connections (now file)) (now work) ≡ predecessors (shown (now file) (now graph)) from time ⌝ }
+    ensures { λ r.
+        ⌜ enquiry (toldArrival r) (now (work .entry)) (now (journey .exit))
+        ≡ readOut (shown (now (file .entry)) (now (graph .entry))) (now (work .entry)) (now (journey .entry)) from to time ⌝ }
 {
     if from == to {
         return Enquired::Arrives(time, 0);
@@ -131,9 +130,9 @@ pub fn read_journey(
     let predecessors = &work[0..n];
     let last = find_last(file, graph, predecessors, to);
     if last >= NONE {
-        return Enquired::Refused(UNREACHABLE, 0);
+        return Enquired::Refused(refusal::UNREACHABLE, 0);
     }
     let count = write_journey(predecessors, journey, last);
-    let arrival = entries::arrival(graph, last as usize);
+    let arrival = graph::arrival(graph, last as usize);
     Enquired::Arrives(arrival, count as u16)
 }

@@ -7,7 +7,7 @@ use native.Mathlib.Omega.{arith}
 use Rattle.model.specs.Least.{none, rank}
 use Rattle.model.specs.Network.{Network, Sound}
 use Rattle.model.specs.Graph.{waiting, transfer, Node, Arc, connection, aboard, wait, change, Forward}
-use Rattle.model.proofs.Tests.{by-lt}
+use Rattle.model.proofs.ByCases.{by-lt}
 use Rattle.model.proofs.Rank.{rank-less}
 use Rattle.model.proofs.Follows.{Change}
 use Rattle.model.proofs.Boards.{Behind, change-on, waiting-listed, transfer-listed, entry-holds, entry-at}

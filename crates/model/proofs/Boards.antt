@@ -6,11 +6,11 @@ use mathlib.Core.Bool.{Bool, true, _&&_}
 use Prim.Native.Nat.{ℕ, _<_, _≤_}
 use native.Mathlib.Omega.{arith}
 use borrow.Author.Tests.{lt-ltb, ltb-true, eq-eqb, eqb-true, le-leb, leb-true}
-use lib.Dec.{leb, eqb}
+use lib.Dec.{eqb}
 use Rattle.model.specs.Least.{none, key, Least, tab}
 use Rattle.model.specs.Network.{Network, Sound}
 use Rattle.model.specs.Graph.{board, ready, firstOn, waiting, transferTo, transfer, firstDeparture}
-use Rattle.model.proofs.Tests.{and-left, and-right, and-both}
+use Rattle.model.proofs.ByCases.{and-left, and-right, and-both}
 use Rattle.model.proofs.Least.{least-is, least-same}
 use Rattle.model.proofs.Tab.{tab-same}
 use Rattle.model.proofs.Follows.{Change}

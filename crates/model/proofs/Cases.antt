@@ -16,35 +16,37 @@ use Rattle.model.specs.Graph.{firstOn, waiting, transferTo, firstDepartu
 use Rattle.model.specs.Journeys.{canBeFirst, canFollow}
 use Rattle.model.specs.Predecessors.{choose, rounds, predecessors, follow, arriving, lastTo, nowhere, journeyIn}
 use Rattle.model.specs.Margin.{marginOf}
-use Rattle.model.specs.Operations.{graphLength, same, lengthsVerdict, contentsVerdict, built, posted, withdrawn, Enquiry, enquired, margined}
+use Rattle.model.specs.Day.{dayOf, lent}
+use Rattle.model.specs.Drawn.{graphLength, same}
+use Rattle.model.specs.Parts.{partVerdict}
+use Rattle.model.specs.Operations.{built, changed, Enquiry, enquired, margined}
 use Rattle.model.specs.Register.{Call, posting, withdrawal}
 use Rattle.model.specs.Runs.{Run, ran, runOf}
 use Rattle.model.specs.Example.{fileOf, inBytes}
-use Rattle.model.proofs.Instances.{Row, right, shown}
+use Rattle.model.proofs.Instances.{Row, right, told}
 
 -- a timetable built on areas that hold sevens and have one number too many, with these calls worked
 unfoldable pub run : List ℕ → List Call → Run
-run f calls = runOf f (replicate (suc noticesLength) 7) (replicate (suc (graphLength f)) 7) calls
+run f calls = runOf (dayOf f) (lent (replicate (suc noticesLength) 7) (replicate (suc (graphLength f)) 7)) calls
 
 -- the times of every connection after these calls
 unfoldable pub timesIn : List ℕ → List Call → List ℕ
-timesIn f calls = take (2 * connections f) (run f calls .graph)
+timesIn f calls = take (2 * connections f) (run f calls .areas .graph)
 
 -- answers as numbers: 0 and the notice number, or the refusal's number and place
-unfoldable pub given : List (Answer ℕ) → List ℕ
-given [] = []
-given (accepted n ∷ rest) = 0 ∷ n ∷ given rest
-given (refused n p ∷ rest) = n ∷ p ∷ given rest
+unfoldable pub answersTold : List (Answer ℕ) → List ℕ
+answersTold [] = []
+answersTold (accepted n ∷ rest) = 0 ∷ n ∷ answersTold rest
+answersTold (refused n p ∷ rest) = n ∷ p ∷ answersTold rest
 
 -- an enquiry in whole: its answer, the predecessors in an area of nines, the journey in one of eights, each one number longer
 -- than there are connections
 unfoldable pub whole : Enquiry → List ℕ
-whole e = shown (e .answer) ++ e .work ++ e .journey
+whole e = told (e .answer) ++ e .work ++ e .journey
 
-unfoldable pub asked : List ℕ → List Call → ℕ → ℕ → ℕ → List ℕ
-asked f calls a b t =
-    let r = run f calls in
-    whole (enquired f (r .notices) (r .graph) (replicate (suc (connections f)) 9) (replicate (suc (connections f)) 8) a b t)
+unfoldable pub enquiryIn : List ℕ → List Call → ℕ → ℕ → ℕ → List ℕ
+enquiryIn f calls a b t =
+    whole (enquired (dayOf f) (run f calls .areas) (replicate (suc (connections f)) 9) (replicate (suc (connections f)) 8) a b t)
 
 -- a margin as numbers: 0, 1 for a minus, and its size; or the refusal's number and place
 unfoldable pub spare : Answer ℤ → List ℕ
@@ -53,7 +55,7 @@ spare (accepted (negsuc n)) = 0 ∷ 1 ∷ suc n ∷ []
 spare (refused n p) = n ∷ p ∷ []
 
 unfoldable pub marginIn : List ℕ → List Call → ℕ → ℕ → List ℕ
-marginIn f calls c d = let r = run f calls in spare (margined f (r .notices) (r .graph) c d)
+marginIn f calls c d = spare (margined (dayOf f) (run f calls .areas) c d)
 
 -- whether each of these tests passes
 unfoldable pub tests : List Bool → List ℕ
@@ -189,7 +191,7 @@ unfoldable pub cases : List Row
 cases =
     -- 0 and 1 leave in the same minute: the lower first; 1 arrives in the minute in which 2 leaves, and needs 0 minutes
     (
-      run sameMinute [] .graph,
+      run sameMinute [] .areas .graph,
       100 ∷ 120 ∷ 100 ∷ 110 ∷ 110 ∷ 130 ∷
           1 ∷ none ∷ none ∷
           none ∷ 2 ∷ none ∷
@@ -197,35 +199,35 @@ cases =
     ) ∷
     -- the one that arrives earlier wins; 2 can follow 1 alone
     (
-      asked sameMinute [] 0 1 100,
+      enquiryIn sameMinute [] 0 1 100,
       0 ∷ 110 ∷ 1 ∷
           0 ∷ 1 ∷ 1 ∷ 9 ∷
           1 ∷ 8 ∷ 8 ∷ 8 ∷ [],
     ) ∷
     -- 1 overtakes 0; 2 arrives when 1 does and has the higher number
     (
-      asked overtaking [] 0 1 195,
+      enquiryIn overtaking [] 0 1 195,
       0 ∷ 240 ∷ 1 ∷
           0 ∷ 1 ∷ 2 ∷ 9 ∷
           1 ∷ 8 ∷ 8 ∷ 8 ∷ [],
     ) ∷
     -- 0 and 1 have left
     (
-      asked overtaking [] 0 1 211,
+      enquiryIn overtaking [] 0 1 211,
       0 ∷ 240 ∷ 1 ∷
           none ∷ none ∷ 2 ∷ 9 ∷
           2 ∷ 8 ∷ 8 ∷ 8 ∷ [],
     ) ∷
     -- 310 and 10 minutes is 320, when 3 leaves: a change from 0 to 3 of the same trip, and 0 is lower than 2
     (
-      asked (loop 10) [] 0 3 300,
+      enquiryIn (loop 10) [] 0 3 300,
       0 ∷ 330 ∷ 2 ∷
           0 ∷ 0 ∷ 1 ∷ 0 ∷ 9 ∷
           0 ∷ 3 ∷ 8 ∷ 8 ∷ 8 ∷ [],
     ) ∷
     -- with 11 minutes only aboard
     (
-      asked (loop 11) [] 0 3 300,
+      enquiryIn (loop 11) [] 0 3 300,
       0 ∷ 330 ∷ 4 ∷
           0 ∷ 0 ∷ 1 ∷ 2 ∷ 9 ∷
           0 ∷ 1 ∷ 2 ∷ 3 ∷ 8 ∷ [],
@@ -236,7 +238,7 @@ cases =
     (marginIn (loop 10) [] 0 1, 0 ∷ 1 ∷ 9 ∷ []) ∷
     -- 0 minutes: arrival and departure at 60 are a change just made
     (
-      asked (meeting 0) [] 0 2 50,
+      enquiryIn (meeting 0) [] 0 2 50,
       0 ∷ 70 ∷ 2 ∷
           0 ∷ 0 ∷ 9 ∷
           0 ∷ 1 ∷ 8 ∷ [],
@@ -244,7 +246,7 @@ cases =
     (marginIn (meeting 0) [] 0 1, 0 ∷ 0 ∷ 0 ∷ []) ∷
     -- 1 minute: missed by one; refusal 30 fills the predecessors
     (
-      asked (meeting 1) [] 0 2 50,
+      enquiryIn (meeting 1) [] 0 2 50,
       30 ∷ 0 ∷
           0 ∷ none ∷ 9 ∷
           8 ∷ 8 ∷ 8 ∷ [],
@@ -252,7 +254,7 @@ cases =
     (marginIn (meeting 1) [] 0 1, 0 ∷ 1 ∷ 1 ∷ []) ∷
     -- 1 is back at stop 0 at 125 and needs its 5 minutes: 3 and not 2
     (
-      run back [] .graph,
+      run back [] .areas .graph,
       100 ∷ 110 ∷ 115 ∷ 125 ∷ 129 ∷ 140 ∷ 130 ∷ 150 ∷
           2 ∷ none ∷ 3 ∷ none ∷
           1 ∷ 3 ∷ none ∷ none ∷
@@ -261,72 +263,72 @@ cases =
     -- so 3 can follow 1, 2 cannot; and 2 can be first at 129, not at 130
     (
       tests
-          (canFollow (networkOf back []) 1 2 ∷
-          canFollow (networkOf back []) 1 3 ∷
-          canBeFirst (networkOf back []) 0 129 2 ∷
-          canBeFirst (networkOf back []) 0 130 2 ∷
+          (canFollow (networkOf (dayOf back) []) 1 2 ∷
+          canFollow (networkOf (dayOf back) []) 1 3 ∷
+          canBeFirst (networkOf (dayOf back) []) 0 129 2 ∷
+          canBeFirst (networkOf (dayOf back) []) 0 130 2 ∷
           []),
       0 ∷ 1 ∷ 1 ∷ 0 ∷ [],
     ) ∷
     -- no minutes at the start
     (
-      asked back [] 0 2 129,
+      enquiryIn back [] 0 2 129,
       0 ∷ 140 ∷ 1 ∷
           none ∷ none ∷ 2 ∷ 3 ∷ 9 ∷
           2 ∷ 8 ∷ 8 ∷ 8 ∷ 8 ∷ [],
     ) ∷
     -- 1 can stand before 3, but 3 can be first and is its own predecessor
     (
-      asked back [] 0 2 100,
+      enquiryIn back [] 0 2 100,
       0 ∷ 140 ∷ 1 ∷
           0 ∷ 0 ∷ 2 ∷ 3 ∷ 9 ∷
           2 ∷ 8 ∷ 8 ∷ 8 ∷ 8 ∷ [],
     ) ∷
     -- from stop 1 it cannot, and 1 stands before it
     (
-      asked back [] 1 2 115,
+      enquiryIn back [] 1 2 115,
       0 ∷ 150 ∷ 2 ∷
           none ∷ 1 ∷ none ∷ 1 ∷ 9 ∷
           1 ∷ 3 ∷ 8 ∷ 8 ∷ 8 ∷ [],
     ) ∷
     -- equal stops: the empty journey, and the predecessors all the same
     (
-      asked back [] 0 0 100,
+      enquiryIn back [] 0 0 100,
       0 ∷ 100 ∷ 0 ∷
           0 ∷ 0 ∷ 2 ∷ 3 ∷ 9 ∷
           8 ∷ 8 ∷ 8 ∷ 8 ∷ 8 ∷ [],
     ) ∷
     -- also at stop 1
     (
-      asked back [] 1 1 100,
+      enquiryIn back [] 1 1 100,
       0 ∷ 100 ∷ 0 ∷
           none ∷ 1 ∷ none ∷ 1 ∷ 9 ∷
           8 ∷ 8 ∷ 8 ∷ 8 ∷ 8 ∷ [],
     ) ∷
     -- the last minute of an enquiry
     (
-      asked back [] 2 2 5759,
+      enquiryIn back [] 2 2 5759,
       0 ∷ 5759 ∷ 0 ∷
           none ∷ none ∷ none ∷ none ∷ 9 ∷
           8 ∷ 8 ∷ 8 ∷ 8 ∷ 8 ∷ [],
     ) ∷
     -- one more is refused and changes nothing
     (
-      asked back [] 2 2 5760,
+      enquiryIn back [] 2 2 5760,
       16 ∷ 0 ∷
           9 ∷ 9 ∷ 9 ∷ 9 ∷ 9 ∷
           8 ∷ 8 ∷ 8 ∷ 8 ∷ 8 ∷ [],
     ) ∷
     -- a stop that there is not is refused before it
     (
-      asked back [] 2 3 5760,
+      enquiryIn back [] 2 3 5760,
       15 ∷ 0 ∷
           9 ∷ 9 ∷ 9 ∷ 9 ∷ 9 ∷
           8 ∷ 8 ∷ 8 ∷ 8 ∷ 8 ∷ [],
     ) ∷
     -- 115 is needed and 112 is scheduled: no transfer
     (
-      run narrow [] .graph,
+      run narrow [] .areas .graph,
       100 ∷ 110 ∷ 112 ∷ 120 ∷
           none ∷ none ∷
           none ∷ none ∷
@@ -334,7 +336,7 @@ cases =
     ) ∷
     -- late by 2 it leaves at 114: none still
     (
-      run narrow (posting 1 1 2 ∷ []) .graph,
+      run narrow (posting 1 1 2 ∷ []) .areas .graph,
       100 ∷ 110 ∷ 114 ∷ 122 ∷
           none ∷ none ∷
           none ∷ none ∷
@@ -342,7 +344,7 @@ cases =
     ) ∷
     -- late by 3 it is reached
     (
-      run narrow (posting 1 1 3 ∷ []) .graph,
+      run narrow (posting 1 1 3 ∷ []) .areas .graph,
       100 ∷ 110 ∷ 115 ∷ 123 ∷
           none ∷ none ∷
           1 ∷ none ∷
@@ -350,14 +352,14 @@ cases =
     ) ∷
     -- and there is a journey
     (
-      asked narrow (posting 1 1 3 ∷ []) 0 2 100,
+      enquiryIn narrow (posting 1 1 3 ∷ []) 0 2 100,
       0 ∷ 123 ∷ 2 ∷
           0 ∷ 0 ∷ 9 ∷
           0 ∷ 1 ∷ 8 ∷ [],
     ) ∷
     -- 0 before 1, and 2 reaches 0
     (
-      run board [] .graph,
+      run board [] .areas .graph,
       100 ∷ 110 ∷ 105 ∷ 115 ∷ 80 ∷ 95 ∷
           1 ∷ none ∷ none ∷
           none ∷ none ∷ 0 ∷
@@ -365,7 +367,7 @@ cases =
     ) ∷
     -- 0 late by 10 moves behind 1
     (
-      run board (posting 9 0 10 ∷ []) .graph,
+      run board (posting 9 0 10 ∷ []) .areas .graph,
       110 ∷ 120 ∷ 105 ∷ 115 ∷ 80 ∷ 95 ∷
           none ∷ 0 ∷ none ∷
           none ∷ none ∷ 1 ∷
@@ -373,7 +375,7 @@ cases =
     ) ∷
     -- withdrawn, it is where it was
     (
-      run board (posting 9 0 10 ∷ withdrawal 9 ∷ []) .graph,
+      run board (posting 9 0 10 ∷ withdrawal 9 ∷ []) .areas .graph,
       100 ∷ 110 ∷ 105 ∷ 115 ∷ 80 ∷ 95 ∷
           1 ∷ none ∷ none ∷
           none ∷ none ∷ 0 ∷
@@ -381,7 +383,7 @@ cases =
     ) ∷
     -- a notice of 5 minutes is left: the minute of 1, and the lower first
     (
-      run board (posting 9 0 10 ∷ posting 8 0 5 ∷ withdrawal 9 ∷ []) .graph,
+      run board (posting 9 0 10 ∷ posting 8 0 5 ∷ withdrawal 9 ∷ []) .areas .graph,
       105 ∷ 115 ∷ 105 ∷ 115 ∷ 80 ∷ 95 ∷
           1 ∷ none ∷ none ∷
           none ∷ none ∷ 0 ∷
@@ -400,35 +402,35 @@ cases =
     (timesIn trips (posting 1 0 8 ∷ posting 2 1 4 ∷ []), 108 ∷ 118 ∷ 119 ∷ 129 ∷ 129 ∷ 139 ∷ 140 ∷ 150 ∷ []) ∷
     -- refused calls, each by the first refusal that fits
     (
-      given (run trips refusals .answers),
+      answersTold (run trips refusals .answers),
       12 ∷ 0 ∷ 13 ∷ 0 ∷ 14 ∷ 0 ∷ 14 ∷ 0 ∷ 0 ∷ 1 ∷ 25 ∷ 0 ∷ 13 ∷ 0 ∷ 12 ∷ 0 ∷ 27 ∷ 0 ∷ [],
     ) ∷
     -- change nothing: 1 notice stands, number 1 for connection 0 by 8 minutes
-    (run trips refusals .notices, 1 ∷ 1 ∷ 0 ∷ 8 ∷ (replicate 597 0 ++ (7 ∷ []))) ∷
-    (run trips refusals .graph, run trips (posting 1 0 8 ∷ []) .graph) ∷
+    (run trips refusals .areas .notices, 1 ∷ 1 ∷ 0 ∷ 8 ∷ (replicate 597 0 ++ (7 ∷ []))) ∷
+    (run trips refusals .areas .graph, run trips (posting 1 0 8 ∷ []) .areas .graph) ∷
     (timesIn trips refusals, 108 ∷ 118 ∷ 118 ∷ 128 ∷ 128 ∷ 138 ∷ 140 ∷ 150 ∷ []) ∷
     -- a number that was withdrawn can be posted again
     (
-      given (run trips (posting 1 0 8 ∷ withdrawal 1 ∷ withdrawal 1 ∷ posting 1 3 2 ∷ []) .answers),
+      answersTold (run trips (posting 1 0 8 ∷ withdrawal 1 ∷ withdrawal 1 ∷ posting 1 3 2 ∷ []) .answers),
       0 ∷ 1 ∷ 0 ∷ 1 ∷ 27 ∷ 0 ∷ 0 ∷ 1 ∷ [],
     ) ∷
     -- of two that can stand before 2 the lower, although it arrives later
     (
-      asked choice [] 0 2 100,
+      enquiryIn choice [] 0 2 100,
       0 ∷ 150 ∷ 2 ∷
           0 ∷ 1 ∷ 0 ∷ 9 ∷
           0 ∷ 2 ∷ 8 ∷ 8 ∷ [],
     ) ∷
     -- late by 5 it arrives at 135, and can still
     (
-      asked choice (posting 1 0 5 ∷ []) 0 2 100,
+      enquiryIn choice (posting 1 0 5 ∷ []) 0 2 100,
       0 ∷ 150 ∷ 2 ∷
           0 ∷ 1 ∷ 0 ∷ 9 ∷
           0 ∷ 2 ∷ 8 ∷ 8 ∷ [],
     ) ∷
     -- late by 6 it cannot
     (
-      asked choice (posting 1 0 6 ∷ []) 0 2 100,
+      enquiryIn choice (posting 1 0 6 ∷ []) 0 2 100,
       0 ∷ 150 ∷ 2 ∷
           0 ∷ 1 ∷ 1 ∷ 9 ∷
           1 ∷ 2 ∷ 8 ∷ 8 ∷ [],
@@ -439,10 +441,10 @@ cases =
     (marginIn ends (posting 1 1 1440 ∷ []) 1 0, 0 ∷ 1 ∷ 5819 ∷ []) ∷
     (marginIn ends [] 0 0, 17 ∷ 0 ∷ []) ∷
     -- no connection
-    (run empty [] .graph, none ∷ 7 ∷ []) ∷
+    (run empty [] .areas .graph, none ∷ 7 ∷ []) ∷
     -- the empty journey is there
     (
-      asked empty [] 0 0 5,
+      enquiryIn empty [] 0 0 5,
       0 ∷ 5 ∷ 0 ∷
           9 ∷
           8 ∷ [],
@@ -455,9 +457,9 @@ cases =
         ∷ withdrawal 0 ∷ withdrawal 2 ∷ []
 
 pub cases-right : right cases ≡ true
-unfolding right cases shown whole asked spare marginIn tests given timesIn run
+unfolding right cases told whole enquiryIn spare marginIn tests answersTold timesIn run
     sameMinute overtaking loop meeting back narrow board trips choice ends empty inBytes
-    runOf ran built posted withdrawn enquired margined marginOf lengthsVerdict contentsVerdict same
+    runOf ran built changed enquired margined marginOf partVerdict same
     fileVerdict headerVerdict stopVerdict wrongStops wrongTrip wrongTimes wrongJoin connectionVerdict firstBelow
     transferTime trip from to scheduledDeparture scheduledArrival staysAboard
     leastBelow tab flat cut areaOf rowsOf stands entered struck standsRight unusedRight rowsFrom rowsVerdict

@@ -9,7 +9,7 @@ use lib.Dec.{leb, eqb}
 use Rattle.model.specs.Network.{Network, Sound}
 use Rattle.model.specs.Graph.{board, ready}
 use Rattle.model.specs.Journeys.{canBeFirst, canFollow}
-use Rattle.model.proofs.Tests.{and-left, and-right, and-both, or-cases, or-left, or-right}
+use Rattle.model.proofs.ByCases.{and-left, and-right, and-both, or-cases, or-left, or-right}
 
 module _ (net : Network) where
   -- what can be first leaves a, at t or later

@@ -9,7 +9,7 @@ use lib.Seq.{getD-append-add}
 use Rattle.model.specs.Least.{tab}
 use Rattle.model.specs.Network.{Network}
 use Rattle.model.specs.Graph.{waiting, transfer, firstDeparture, times, graphOf, graphSize}
-use Rattle.model.proofs.Tests.{by-last}
+use Rattle.model.proofs.ByCases.{by-last}
 use Rattle.model.proofs.Tab.{length-tab, getD-tab}
 
 -- an entry of the first of two lists, and of the second
@@ -117,7 +117,3 @@ module _ (net : Network) (rest : List ℕ) where
     -- c's transfer entry
     pub transfer-within : getD (graphOf net ++ rest) (3 * net .connections + c) 0 ≡ transfer net c
     transfer-within = graph-front (3 * net .connections + c) (omega arith) ∙ transfer-entry net c h
-
-  -- a stop's first departure
-  pub first-within : (s : ℕ) → s < net .stops → getD (graphOf net ++ rest) (4 * net .connections + s) 0 ≡ firstDeparture net s
-  first-within s h = graph-front (4 * net .connections + s) (omega arith) ∙ first-entry net s h

@@ -11,9 +11,9 @@ use lib.Dec.{eqb}
 use borrow.Author.Tests.{lt-ltb, ltb-true, eq-eqb, ne-eqb, eqb-true, not-true}
 use Rattle.model.specs.Least.{none, key, Found, Least, rank}
 use Rattle.model.specs.Network.{Network, Sound}
-use Rattle.model.specs.Journeys.{canBeFirst, canFollow, Ends, first, next, Valid, stay, travel, arrives, NotAfter, stops, lower, same, Best, Unreachable}
+use Rattle.model.specs.Journeys.{canBeFirst, canFollow, Ends, first, next, Valid, stay, travel, arrives, NotAfter, stops, lower, beyond, Best, Unreachable}
 use Rattle.model.specs.Predecessors.{reachedIn, choose, predecessors, follow, arriving, lastTo, nowhere, journeyIn, Predecessor, own, before, unreached}
-use Rattle.model.proofs.Tests.{by-lt, by-eq, by-bool, and-left, and-right, and-both}
+use Rattle.model.proofs.ByCases.{by-lt, by-eq, by-bool, and-left, and-right, and-both}
 use Rattle.model.proofs.Least.{least-is}
 use Rattle.model.proofs.Rank.{rank-below, rank-early}
 use Rattle.model.proofs.Follows.{first-means, follows-later}
@@ -23,9 +23,9 @@ use Rattle.model.proofs.Rounds.{predecessor-is, length-predecessors, nu
 pub not-after-both : {xs ys : List ℕ} → NotAfter xs ys → NotAfter ys xs → xs ≡ ys
 not-after-both stops stops = refl
 not-after-both (lower h) (lower k) = absurd (omega arith)
-not-after-both (lower h) (same k) = absurd (omega arith)
-not-after-both (same h) (lower k) = absurd (omega arith)
-not-after-both (same {x} h) (same k) = ap (λ l. x ∷ l) (not-after-both h k)
+not-after-both (lower h) (beyond k) = absurd (omega arith)
+not-after-both (beyond h) (lower k) = absurd (omega arith)
+not-after-both (beyond {x} h) (beyond k) = ap (λ l. x ∷ l) (not-after-both h k)
 
 -- what follow gives begins with the connection that it starts from
 pub follow-begins : (w : List ℕ) (k c : ℕ) → 0 < k → (rest : List ℕ) × (follow w k c ≡ c ∷ rest)
@@ -177,18 +177,18 @@ module _ (net : Network) (a t : ℕ) where
     first-in-order (suc k) c l (first h f) = go (entry c h)
       where
         go : Entry c (pred c) → NotAfter (follow W (suc k) c) (c ∷ [])
-        go (itself g q) = rw (eq-eqb (pred c) c q) (same stops)
+        go (itself g q) = rw (eq-eqb (pred c) c q) (beyond stops)
         go (lowest g b m) = absurd (true≢false (sym f ∙ g))
         go (nothing g w q) = absurd (true≢false (sym f ∙ g))
     first-in-order (suc k) c l (next {e = e} {js = js} h f r) = go (λ i. first-in-order k e i r) (entry c h)
       where
         go : (place e < k → NotAfter (follow W k e) (e ∷ js)) → Entry c (pred c) → NotAfter (follow W (suc k) c) (c ∷ e ∷ js)
-        go ih (itself g q) = rw (eq-eqb (pred c) c q) (same stops)
+        go ih (itself g q) = rw (eq-eqb (pred c) c q) (beyond stops)
         go ih (nothing g w q) = absurd (w e (in-range r, reached r, f))
         go ih (lowest g b m) =
             let i : place e < k = omega (arith, later-place h (in-range r, reached r, f)) in
             rw (ne-eqb (pred c) c (other (pred c) c h b))
-            (same (no-later k (pred c) e (omega (arith, later-place h b)) (m e (in-range r, reached r, f)) (ih i)))
+            (beyond (no-later k (pred c) e (omega (arith, later-place h b)) (m e (in-range r, reached r, f)) (ih i)))
 
     -- departures fall when a journey is read from its end
     pub falls : {c e : ℕ} {js : List ℕ} → Ends net a t (c ∷ e ∷ js) → net .departure e < net .departure c

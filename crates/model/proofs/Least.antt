@@ -7,7 +7,7 @@ use native.Mathlib.Omega.{arith}
 use borrow.Author.Tests.{lt-ltb, le-ltb, eq-eqb, ne-eqb}
 use lib.Dec.{ltb, eqb}
 use Rattle.model.specs.Least.{none, key, leastBelow, Least}
-use Rattle.model.proofs.Tests.{by-lt, by-bool, one-more}
+use Rattle.model.proofs.ByCases.{by-lt, by-bool, one-more}
 
 module _ (test : ℕ → Bool) (time : ℕ → ℕ) where
   -- a scan that keeps the best so far: before its first turn

@@ -1,17 +1,19 @@
-pub mod Tests
+pub mod ByCases
 pub mod Tab
 pub mod Least
-pub mod Places
+pub mod PlaceOrder
 pub mod Rank
 pub mod Verdicts
 pub mod Lists
 pub mod Areas
 pub mod Rows
-pub mod Kept
+pub mod Entering
 pub mod Times
 pub mod Boards
 pub mod Arcs
 pub mod GraphArea
+pub mod Parts
+pub mod Operations
 pub mod Ready
 pub mod Follows
 pub mod Routes
@@ -24,3 +26,4 @@ pub mod Runs
 pub mod Margin
 pub mod Instances
 pub mod Cases
+pub mod Claims

@@ -10,8 +10,8 @@ use borrow.Author.Tests.{eq-eqb, ne-eqb, eqb-true}
 use lib.Dec.{eqb}
 use lib.ListN.{length, getD, drop}
 use lib.Seq.{drop-cons, drop-length}
-use Rattle.model.specs.Operations.{same}
-use Rattle.model.proofs.Tests.{and-left, and-right}
+use Rattle.model.specs.Drawn.{same}
+use Rattle.model.proofs.ByCases.{and-left, and-right}
 
 pub same-refl : (xs : List ℕ) → same xs xs ≡ true
 unfolding same

@@ -11,7 +11,7 @@ use Rattle.timetable.specs.Check.{maxTransferTime}
 use Rattle.model.specs.Network.{Network, lastExpected, Sound}
 use Rattle.model.specs.Graph.{board, ready}
 use Rattle.model.specs.Margin.{marginBetween, marginOf}
-use Rattle.model.proofs.Tests.{by-lt}
+use Rattle.model.proofs.ByCases.{by-lt}
 
 sub-is : (d s : ℕ) → pos d -ℤ pos s ≡ subℕ d s
 sub-is d zero = rw (le-ltb d 0 (omega arith)) (ap pos (omega arith))

@@ -9,7 +9,7 @@ use Rattle.model.specs.Least.{key}
 use Rattle.model.specs.Network.{Network, Sound}
 use Rattle.model.specs.Graph.{waiting, transfer, Node, departureOf, arrivalOf, connection, aboard, wait, change}
 use Rattle.model.specs.Journeys.{canBeFirst, canFollow, Ends, first, next, Route, start, onto, along}
-use Rattle.model.proofs.Tests.{by-lt}
+use Rattle.model.proofs.ByCases.{by-lt}
 use Rattle.model.proofs.Follows.{first-means, first-test, Aboard, Change, follow-means, change-follows, aboard-follows}
 use Rattle.model.proofs.Journeys.{in-range}
 use Rattle.model.proofs.Boards.{Behind, ChangeOn, change-on, on-change, waiting-listed, transfer-listed, entry-at, entry-first}

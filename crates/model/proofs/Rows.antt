@@ -1,23 +1,24 @@
 -- The check of a notice area (refusal 23): it passes the areas of well-formed notices, whatever it passes is such an area, and
 -- where it refuses it names the first wrong row. Assumes nothing.
-use mathlib.Core.Path.{_≡_, refl, sym, ap, _∙_}
+use mathlib.Core.Path.{_≡_, refl, sym, ap, ap₂, _∙_}
 use mathlib.Core.Logic.{_⊎_, inl, inr, ⊎-elim}
 use mathlib.Core.Bool.{Bool, true, false, cond, not, _&&_, true≢false}
-use mathlib.Core.List.{List, [], _∷_, _++_, append-assoc}
+use mathlib.Core.List.{List, [], _∷_, _++_}
 use Prim.Native.Nat.{ℕ, zero, suc, _+_, _*_, _-_, _≤_, _<_}
-use native.Mathlib.Nat.{suc-add, zero-add, sub-zero}
 use native.Mathlib.Omega.{arith}
-use borrow.Author.Tests.{lt-ltb, le-ltb, le-leb, ltb-true, ltb-false, leb-true, eqb-true, not-false}
-use lib.Dec.{ltb, leb, eqb}
-use lib.ListN.{length, getD, drop, replicate, length-drop}
-use lib.Seq.{drop-cons, drop-drop}
+use borrow.Author.Tests.{lt-ltb, le-ltb, le-leb, ltb-true, ltb-false, leb-true, not-false}
+use lib.Dec.{ltb, leb}
+use lib.ListN.{length, drop, replicate, List·getD-append}
+use lib.Seq.{drop-drop}
 use Rattle.timetable.specs.Answers.{refuseIf, orElse}
 use Rattle.timetable.specs.declared.Verdict.{Verdict}
 use Rattle.timetable.specs.declared.Verdict.the-variants.{Passed, Refused}
-use Rattle.model.specs.Notices.{Notice, width, room, noticesLength, leastDelay, mostStanding, rowAt, flat, cut, areaOf, rowsOf, standsRight, unusedRight, rowsFrom, rowsVerdict, Within, Ascending, WellFormed}
-use Rattle.model.proofs.Tests.{by-lt, by-bool, and-left, and-right, one-more}
+use Rattle.model.specs.Notices.{Notice, width, room, noticesLength, leastDelay, mostStanding, unusedRow, rowAt, flat, cut, areaOf, countIn, rowsOf, unusedOf, standsRight, unusedRight, rowsFrom, standingVerdict, unusedVerdict, rowsVerdict, Within, Ascending, WellFormed}
+use Rattle.model.specs.RefusalNumber as refusal
+use Rattle.timetable.proofs.Order.{or-passed}
+use Rattle.model.proofs.ByCases.{by-lt, by-bool, and-left, and-right, one-more}
 use Rattle.model.proofs.Verdicts.{passed-not-refused, else-passed, if-passed}
-use Rattle.model.proofs.Areas.{row-more, past-row, front-row, length-cut}
+use Rattle.model.proofs.Areas.{unused-right, unused-is, length-cut, flat-unused, count-area, rows-area, unused-area, area-parts, count-rows, parts, rows-append, unused-append}
 
 -- what a standing row's test means
 abbrev pub Fits : ℕ → ℕ → Notice → Type 0
@@ -44,88 +45,94 @@ right-fits C before n h =
       },
     )
 
--- what an unused row's test means
-pub unused-zero : (n : Notice) → unusedRight n ≡ true → (n .number ≡ 0) × (n .connection ≡ 0) × (n .delay ≡ 0)
-unfolding unusedRight
-unused-zero n h =
-    let number = eqb (n .number) 0 in
-    let connection = eqb (n .connection) 0 in
-    let delay = eqb (n .delay) 0 in
-    let a = and-left (number && connection) delay h in
-    (eqb-true _ _ (and-left number connection a), eqb-true _ _ (and-right number connection a), eqb-true _ _ (and-right (number && connection) delay h))
+-- a row that passed, and what follows
+on : (b : Bool) (k : ℕ) (v : Verdict) → orElse (refuseIf (not b) refusal.wrongRow k) v ≡ Passed → (b ≡ true) × (v ≡ Passed)
+on b k v h =
+    let e = else-passed (refuseIf (not b) refusal.wrongRow k) v .0 h in
+    (not-false b (if-passed (not b) refusal.wrongRow k .0 (e .0)), e .1)
 
--- unused rows pass, and so do rows that stand before them
-unused-pass : (C k before m : ℕ) (rest : List ℕ) → rowsFrom C k before 0 (cut m (replicate (width * m) 0 ++ rest)) ≡ Passed
-unfolding rowsFrom cut unusedRight
-unused-pass C k before zero rest = refl
-unused-pass C k before (suc m) rest = rw row-more (unused-pass C (suc k) before m rest)
+-- rows that stand pass if and only if they ascend, each within its limits
+standing-pass : (C k before : ℕ) (ns : List Notice) → Ascending C before ns → rowsFrom (standsRight C) k before ns ≡ Passed
+unfolding rowsFrom
+standing-pass C k before [] h = refl
+standing-pass C k before (n ∷ ns) h =
+    rw (fits-right C before n (h .0, h .1)) (standing-pass C (suc k) (n .number) ns (h .2))
 
-rows-pass : (C k before m : ℕ) (ns : List Notice) (rest : List ℕ) → Ascending C before ns
-    → rowsFrom C k before (length ns) (cut (length ns + m) (flat ns ++ (replicate (width * m) 0 ++ rest))) ≡ Passed
-unfolding rowsFrom cut flat
-rows-pass C k before m [] rest h = rw zero-add (unused-pass C k before m rest)
-rows-pass C k before m (n ∷ ns) rest h =
-    rw (suc-add, fits-right C before n (h .0, h .1)) (rows-pass C (suc k) (n .number) m ns rest (h .2))
+standing-passed : (C k before : ℕ) (ns : List Notice) → rowsFrom (standsRight C) k before ns ≡ Passed → Ascending C before ns
+unfolding rowsFrom
+standing-passed C k before [] h = tt
+standing-passed C k before (n ∷ ns) h =
+    let t = on _ _ _ h in
+    let f = right-fits C before n (t .0) in
+    (f .0, f .1, standing-passed C (suc k) (n .number) ns (t .1))
 
-passes : (C r z m : ℕ) (ns : List Notice) (rest : List ℕ) → Ascending C 0 ns → r ≡ length ns + m → z ≡ width * m
-    → rowsFrom C 1 0 (length ns) (cut r (flat ns ++ replicate z 0 ++ rest)) ≡ Passed
-passes C r z m ns rest h p q = rw (p, q, append-assoc) (rows-pass C 1 0 m ns rest h)
+-- other rows pass if and only if they are unused
+abbrev pub unusedAfter : ℕ → Notice → Bool
+unusedAfter before n = unusedRight n
+
+pub unused-pass : (k before m : ℕ) → rowsFrom unusedAfter k before (replicate m unusedRow) ≡ Passed
+unfolding rowsFrom
+unused-pass k before zero = refl
+unused-pass k before (suc m) = rw unused-right (unused-pass (suc k) 0 m)
+
+unused-passed : (k before : ℕ) (ns : List Notice) → rowsFrom unusedAfter k before ns ≡ Passed → ns ≡ replicate (length ns) unusedRow
+unfolding rowsFrom
+unused-passed k before [] h = refl
+unused-passed k before (n ∷ ns) h =
+    let t = on _ _ _ h in
+    ap₂ (λ (x : Notice) (r : List Notice). x ∷ r) (unused-is n (t .0)) (unused-passed (suc k) (n .number) ns (t .1))
 
 -- the area of well-formed notices passes
 pub area-right : (C : ℕ) (ns : List Notice) (rest : List ℕ) → WellFormed C ns → rowsVerdict C (areaOf ns ++ rest) ≡ Passed
-unfolding rowsVerdict areaOf
+unfolding rowsVerdict
 area-right C ns rest w =
-    let f = w .fits in
-    rw (le-ltb room (length ns) f)
-    (passes C room (width * room - width * length ns) (room - length ns) ns rest (w .ascending) (omega arith) (omega arith))
+    rw (unused-area ns rest (w .fits), rows-area ns rest, count-area ns rest, le-ltb room (length ns) (w .fits), standing-pass C 1 0 ns (w .ascending))
+    (unused-pass (suc (length ns)) 0 (room - length ns))
 
--- a row that passed, and what follows
-on : (b : Bool) (k : ℕ) (v : Verdict) → orElse (refuseIf (not b) 23 k) v ≡ Passed → (b ≡ true) × (v ≡ Passed)
-on b k v h = let e = else-passed (refuseIf (not b) 23 k) v .0 h in (not-false b (if-passed (not b) 23 k .0 (e .0)), e .1)
+module _ (C : ℕ) (area : List ℕ) (h : rowsVerdict C area ≡ Passed) where
+  passed-count : (refuseIf (ltb room (countIn area)) refusal.wrongRow 0 ≡ Passed) × (orElse (standingVerdict C area) (unusedVerdict area) ≡ Passed)
+  unfolding rowsVerdict
+  passed-count = else-passed (refuseIf (ltb room (countIn area)) refusal.wrongRow 0) _ .0 h
 
-read-unused : (C k before m : ℕ) (xs : List ℕ) → width * m ≤ length xs → rowsFrom C k before 0 (cut m xs) ≡ Passed
-    → xs ≡ replicate (width * m) 0 ++ drop (width * m) xs
-unfolding rowsFrom cut
-read-unused C k before zero xs l h = refl
-read-unused C k before (suc m) xs l h =
-    let t = on _ _ _ h in
-    let z = unused-zero (rowAt xs) (t .0) in
-    let r : drop width xs ≡ replicate (width * m) 0 ++ drop (width * m) (drop width xs) =
-    read-unused C (suc k) before m (drop width xs) (rw length-drop (omega arith)) (t .1) in
-    front-row xs (omega arith) ∙ rw (past-row, row-more, z .0, z .1, z .2) (ap (λ (y : List ℕ). 0 ∷ 0 ∷ 0 ∷ y) r)
+  passed-rows : (standingVerdict C area ≡ Passed) × (unusedVerdict area ≡ Passed)
+  passed-rows = else-passed (standingVerdict C area) (unusedVerdict area) .0 (passed-count .1)
 
-read-rows : (C k before count m : ℕ) (xs : List ℕ) → width * (count + m) ≤ length xs
-    → rowsFrom C k before count (cut (count + m) xs) ≡ Passed
-    → (xs ≡ flat (cut count xs) ++ (replicate (width * m) 0 ++ drop (width * (count + m)) xs)) × Ascending C before (cut count xs)
-unfolding rowsFrom cut flat
-read-rows C k before zero m xs l h = rw zero-add (read-unused C k before m xs (rw zero-add at l) (rw zero-add at h), tt)
-read-rows C k before (suc count) m xs l h =
-    let t = on _ _ _ (rw suc-add at h) in
-    let f = right-fits C before (rowAt xs) (t .0) in
-    let r = read-rows C (suc k) (getD xs 0 0) count m (drop width xs) (rw length-drop (omega arith)) (t .1) in
-    (front-row xs (omega arith) ∙ rw (suc-add, past-row) (ap (λ (y : List ℕ). getD xs 0 0 ∷ getD xs 1 0 ∷ getD xs 2 0 ∷ y) (r .0)), (f .0, f .1, r .1))
+  -- an area that passes holds no more notices than there is room for
+  pub passed-fits : countIn area ≤ room
+  passed-fits = ltb-false _ _ (if-passed _ refusal.wrongRow 0 .0 (passed-count .0))
 
--- what passes, cut at any room r
-reads : (C r count : ℕ) (xs : List ℕ) → count ≤ r → width * r ≤ length xs → rowsFrom C 1 0 count (cut r xs) ≡ Passed
-    → (xs ≡ flat (cut count xs) ++ replicate (width * r - width * count) 0 ++ drop (width * r) xs) × Ascending C 0 (cut count xs)
-reads C r count xs p l h =
-    let e : r ≡ count + (r - count) = omega arith in
-    let z : width * r - width * count ≡ width * (r - count) = omega arith in
-    let q = read-rows C 1 0 count (r - count) xs (rw (← e) l) (rw (← e) h) in
-    (rw (z, append-assoc) (rw (← e) at (q .0)), q .1)
-
--- an area that passes is that of its notices, and these are well formed
+-- it is that of its notices, and these are well formed
 pub area-read : (C : ℕ) (area : List ℕ) → noticesLength ≤ length area → rowsVerdict C area ≡ Passed
     → (area ≡ areaOf (rowsOf area) ++ drop noticesLength area) × WellFormed C (rowsOf area)
-unfolding rowsVerdict areaOf rowsOf
-area-read C area l h =
-    let over = ltb room (getD area 0 0) in
-    let rows = rowsFrom C 1 0 (getD area 0 0) (cut room (drop 1 area)) in
-    let u = else-passed (refuseIf over 23 0) rows .0 h in
-    let p : getD area 0 0 ≤ room = ltb-false _ _ (if-passed over 23 0 .0 (u .0)) in
-    let r = reads C room (getD area 0 0) (drop 1 area) p (rw length-drop (omega arith)) (u .1) in
-    let n : length (cut (getD area 0 0) (drop 1 area)) ≡ getD area 0 0 = length-cut (getD area 0 0) (drop 1 area) in
-    (drop-cons area 0 0 (omega arith) ∙ rw n (ap (λ (y : List ℕ). getD area 0 0 ∷ y) (rw (drop-drop (width * room) 1 area) at (r .0))), record { ascending = r .1; fits = rw n p })
+area-read C area long h =
+    let k = countIn area in
+    let rest = drop noticesLength area in
+    let p = passed-rows C area h in
+    let fits = passed-fits C area h in
+    let unused : unusedOf area ≡ replicate (room - k) unusedRow = rw length-cut at (unused-passed _ _ (unusedOf area) (p .1)) in
+    let z : width * (room - k) ≡ width * room - width * k = omega arith in
+    let zeros : flat (unusedOf area) ≡ replicate (width * room - width * k) 0 =
+    ap flat unused ∙ flat-unused (room - k) ∙ ap (λ (m : ℕ). replicate m 0) z in (
+      parts area long fits
+          ∙ ap (λ (y : List ℕ). k ∷ (flat (rowsOf area) ++ (y ++ rest))) zeros
+          ∙ area-parts (rowsOf area) rest k (sym (count-rows area)),
+      record { ascending = standing-passed C 1 0 (rowsOf area) (p .0); fits = rw (count-rows area) fits },
+    )
+
+module _ (C : ℕ) (xs rest : List ℕ) (long : noticesLength ≤ length xs) where
+  -- the check of a notice area reads its stated length only
+  pub rows-verdict : rowsVerdict C (xs ++ rest) ≡ rowsVerdict C xs
+  unfolding rowsVerdict
+  rows-verdict =
+      let c : countIn (xs ++ rest) ≡ countIn xs = List·getD-append xs rest 0 0 (omega arith) in
+      ⊎-elim
+      (λ (l : room < countIn xs). rw (c, lt-ltb room (countIn xs) l))
+      (λ (f : countIn xs ≤ room). rw (unused-append xs rest long f, rows-append xs rest long f, c))
+      (by-lt room (countIn xs))
+
+  -- and so do the notices of one that passes
+  pub rows-same : rowsVerdict C xs ≡ Passed → rowsOf (xs ++ rest) ≡ rowsOf xs
+  rows-same h = rows-append xs rest long (passed-fits C xs h)
 
 -- row k of an area, counted from 0
 abbrev pub rowIn : List ℕ → ℕ → Notice
@@ -139,14 +146,14 @@ numberBefore area (suc k) = rowIn area k .number
 -- row k is right: one that stands after the row before, an unused one by itself
 unfoldable pub rowRight : ℕ → List ℕ → ℕ → Bool
 rowRight C area k =
-    cond (ltb k (getD area 0 0)) (standsRight C (numberBefore area k) (rowIn area k)) (unusedRight (rowIn area k))
+    cond (ltb k (countIn area)) (standsRight C (numberBefore area k) (rowIn area k)) (unusedRight (rowIn area k))
 
 -- the check of a notice area said without recursion: no row is wrong, the count is above the room, or row k is the first wrong one
 pub data RowsChecked (C : ℕ) (area : List ℕ) : Verdict → Type 0 where
-  all-right : getD area 0 0 ≤ room → ((j : ℕ) → j < room → rowRight C area j ≡ true) → RowsChecked C area Passed
-  count-over : room < getD area 0 0 → RowsChecked C area (Refused 23 0)
-  row-wrong : {k : ℕ} → getD area 0 0 ≤ room → k < room → rowRight C area k ≡ false
-      → ((j : ℕ) → j < k → rowRight C area j ≡ true) → RowsChecked C area (Refused 23 (suc k))
+  all-right : countIn area ≤ room → ((j : ℕ) → j < room → rowRight C area j ≡ true) → RowsChecked C area Passed
+  count-over : room < countIn area → RowsChecked C area (Refused refusal.wrongRow 0)
+  row-wrong : {k : ℕ} → countIn area ≤ room → k < room → rowRight C area k ≡ false
+      → ((j : ℕ) → j < k → rowRight C area j ≡ true) → RowsChecked C area (Refused refusal.wrongRow (suc k))
 
 -- place p, counted from 1, is that of the first wrong row
 pub record FirstWrong (C : ℕ) (area : List ℕ) (p : ℕ) : Type 0 where
@@ -157,49 +164,68 @@ pub record FirstWrong (C : ℕ) (area : List ℕ) (p : ℕ) : Type 0 where
   pub before : (j : ℕ) → j < row → rowRight C area j ≡ true
 
 -- before unused rows the number before does not matter
-before-any : (C k b b′ : ℕ) (ns : List Notice) → rowsFrom C k b 0 ns ≡ rowsFrom C k b′ 0 ns
+pub before-any : (k b b′ : ℕ) (ns : List Notice) → rowsFrom unusedAfter k b ns ≡ rowsFrom unusedAfter k b′ ns
 unfolding rowsFrom
-before-any C k b b′ [] = refl
-before-any C k b b′ (n ∷ ns) = rw (before-any C (suc k) b b′ ns)
+before-any k b b′ [] = refl
+before-any k b b′ (n ∷ ns) = refl
 
 module _ (C : ℕ) (area : List ℕ) where
-  -- the rows from row k on, m of them
-  rowsOn : ℕ → ℕ → Verdict
-  rowsOn k m = rowsFrom C (suc k) (numberBefore area k) (getD area 0 0 - k) (cut m (drop (1 + width * k) area))
+  -- the m rows from row k on, by a test
+  rowsOn : (ℕ → Notice → Bool) → ℕ → ℕ → Verdict
+  rowsOn right k m = rowsFrom right (suc k) (numberBefore area k) (cut m (drop (1 + width * k) area))
 
-  row-turn : (k m : ℕ) → rowsOn k (suc m) ≡ orElse (refuseIf (not (rowRight C area k)) 23 (suc k)) (rowsOn (suc k) m)
-  unfolding rowsOn rowRight rowsFrom cut
-  row-turn k m =
+  row-turn : (right : ℕ → Notice → Bool) (k m : ℕ)
+      → rowsOn right k (suc m)
+      ≡ orElse (refuseIf (not (right (numberBefore area k) (rowIn area k))) refusal.wrongRow (suc k)) (rowsOn right (suc k) m)
+  unfolding rowsOn rowsFrom cut
+  row-turn right k m =
       let e : 1 + width * k + width ≡ 1 + width * suc k = omega arith in
-      ⊎-elim
-      (λ (l : k < getD area 0 0).
-      let q : getD area 0 0 - k ≡ suc (getD area 0 0 - suc k) = omega arith in
-      rw (q, lt-ltb k (getD area 0 0) l, drop-drop width (1 + width * k) area, e))
-      (λ (g : getD area 0 0 ≤ k).
-      let q : getD area 0 0 - k ≡ 0 = omega arith in
-      let q′ : getD area 0 0 - suc k ≡ 0 = omega arith in
-      rw (q, q′, le-ltb k (getD area 0 0) g, drop-drop width (1 + width * k) area, e)
-      (rw (before-any C (suc (suc k)) (numberBefore area k) (rowIn area k .number) (cut m (drop (1 + width * suc k) area)))))
-      (by-lt k (getD area 0 0))
+      rw (drop-drop width (1 + width * k) area, e)
 
-  rows-on : (k m : ℕ) → getD area 0 0 ≤ room → k + m ≡ room → ((j : ℕ) → j < k → rowRight C area j ≡ true) → RowsChecked C area (rowsOn k m)
+  -- rows that are tested as they should be: one of them is the first wrong one, or all are right
+  rows-on : (right : ℕ → Notice → Bool) (k m : ℕ) (v : Verdict) → countIn area ≤ room → k + m ≤ room
+      → ((j : ℕ) → k ≤ j → j < k + m → rowRight C area j ≡ right (numberBefore area j) (rowIn area j))
+      → ((j : ℕ) → j < k → rowRight C area j ≡ true)
+      → (((j : ℕ) → j < k + m → rowRight C area j ≡ true) → RowsChecked C area v)
+      → RowsChecked C area (orElse (rowsOn right k m) v)
   unfolding rowsOn cut rowsFrom
-  rows-on k zero h e r = all-right h (λ j l. r j (omega arith))
-  rows-on k (suc m) h e r =
-      rw (row-turn k m)
+  rows-on right k zero v h l t r f = f (λ j i. r j (omega arith))
+  rows-on right k (suc m) v h l t r f =
+      rw (row-turn right k m, ← (t k (omega arith) (omega arith)))
       (⊎-elim
-      (λ q. rw q (rows-on (suc k) m h (omega arith) (one-more (λ j. rowRight C area j ≡ true) k r q)))
+      (λ q.
+      rw q
+      (rows-on right (suc k) m v h (omega arith) (λ j a b. t j (omega arith) (omega arith)) (one-more (λ j. rowRight C area j ≡ true) k r q) (λ g. f (λ j i. g j (omega arith)))))
       (λ q. rw q (row-wrong {k = k} h (omega arith) q r))
       (by-bool (rowRight C area k)))
 
+  right-standing : (j : ℕ) → j < countIn area → rowRight C area j ≡ standsRight C (numberBefore area j) (rowIn area j)
+  unfolding rowRight
+  right-standing j h = rw (lt-ltb j (countIn area) h)
+
+  right-unused : (j : ℕ) → countIn area ≤ j → rowRight C area j ≡ unusedRight (rowIn area j)
+  unfolding rowRight
+  right-unused j h = rw (le-ltb j (countIn area) h)
+
+  -- the rows past those that stand, where all of these are right
+  others-checked : countIn area ≤ room → ((j : ℕ) → j < countIn area → rowRight C area j ≡ true) → RowsChecked C area (unusedVerdict area)
+  unfolding rowsOn
+  others-checked h r =
+      let k = countIn area in
+      rw (before-any (suc k) 0 (numberBefore area k) (unusedOf area), ← (or-passed (rowsOn unusedAfter k (room - k))))
+      (rows-on unusedAfter k (room - k) Passed h (omega arith) (λ j l m. right-unused j l) r (λ g. all-right h (λ j l. g j (omega arith))))
+
   -- what the check of a notice area means
   pub rows-checked : RowsChecked C area (rowsVerdict C area)
-  unfolding rowsVerdict rowsOn
+  unfolding rowsVerdict rowsOf rowsOn
   rows-checked =
       ⊎-elim
-      (λ l. rw (lt-ltb room (getD area 0 0) l) (count-over l))
-      (λ h. rw (le-ltb room (getD area 0 0) h) (rw sub-zero at (rows-on 0 room h refl (λ j l. absurd (omega arith)))))
-      (by-lt room (getD area 0 0))
+      (λ l. rw (lt-ltb room (countIn area) l) (count-over l))
+      (λ h.
+      rw (le-ltb room (countIn area) h)
+      (rows-on (standsRight C) 0 (countIn area) (unusedVerdict area) h (omega arith)
+      (λ j l m. right-standing j (omega arith)) (λ j l. absurd (omega arith)) (λ g. others-checked h (λ j l. g j (omega arith)))))
+      (by-lt room (countIn area))
 
   -- and no other verdict means it
   pub checked-only : (v w : Verdict) → RowsChecked C area v → RowsChecked C area w → v ≡ w
@@ -223,11 +249,11 @@ module _ (C : ℕ) (area : List ℕ) where
 
   -- the place of refusal 23: 0 if the count is above the room, else the first wrong row, counted from 1
   pub rows-place : (n p : ℕ) → rowsVerdict C area ≡ Refused n p
-      → (n ≡ 23) × (((p ≡ 0) × (room < getD area 0 0)) ⊎ ((getD area 0 0 ≤ room) × FirstWrong C area p))
+      → (n ≡ refusal.wrongRow) × (((p ≡ 0) × (room < countIn area)) ⊎ ((countIn area ≤ room) × FirstWrong C area p))
   rows-place n p h = told (rowsVerdict C area) rows-checked h
     where
       told : (v : Verdict) → RowsChecked C area v → v ≡ Refused n p
-          → (n ≡ 23) × (((p ≡ 0) × (room < getD area 0 0)) ⊎ ((getD area 0 0 ≤ room) × FirstWrong C area p))
+          → (n ≡ refusal.wrongRow) × (((p ≡ 0) × (room < countIn area)) ⊎ ((countIn area ≤ room) × FirstWrong C area p))
       told v (all-right f r) h = absurd (passed-not-refused refl h)
       told v (count-over l) h = (cc, inl (cc, l))
       told v (row-wrong {k} f l q r) h = (cc, inr (f, record { row = k; place = cc; below = l; wrong = q; before = r }))

@@ -18,10 +18,12 @@ use Rattle.model.specs.Graph.{waiting, transfer, times, graphOf, departu
 use Rattle.model.specs.Journeys.{canBeFirst, canFollow, arrives}
 use Rattle.model.specs.Predecessors.{reachedIn, choose, rounds, predecessors, arriving, lastTo, nowhere, journeyIn}
 use Rattle.model.specs.Margin.{marginOf}
-use Rattle.model.specs.Operations.{graphLength, answered, searched}
-use Rattle.model.specs.Ready.{networkBy, Ready}
+use Rattle.model.specs.Day.{Day, Areas}
+use Rattle.model.specs.Drawn.{graphLength, networkBy}
+use Rattle.model.specs.Operations.{answered, searched}
+use Rattle.model.specs.Ready.{Ready}
 use Rattle.model.specs.Shown.{shown, Readable}
-use Rattle.model.proofs.Tests.{by-eq}
+use Rattle.model.proofs.ByCases.{by-eq}
 use Rattle.model.proofs.Tab.{tab-same}
 use Rattle.model.proofs.Least.{least-is, least-same}
 use Rattle.model.proofs.Boards.{Agree, waiting-list-same, transfer-list-same, first-list-same}
@@ -60,16 +62,16 @@ module _ (f graph : List ℕ) (r : Readable f graph) where
     transfer-shown = ap (λ (g : List ℕ). transferIn g (connections f) c) (r .drawn) ∙ transfer-within net rest c h
 
 -- an area with the expected times shows, wherever it matters, the network of the notices that stand
-module _ (f notices graph : List ℕ) (sound-by : Sound (networkBy f notices))
-    (departs : (c : ℕ) → c < connections f → departureIn graph c ≡ networkBy f notices .departure c)
-    (comes : (c : ℕ) → c < connections f → arrivalIn graph c ≡ networkBy f notices .arrival c) where
+module _ (day : Day) (areas : Areas) (sound-by : Sound (networkBy day areas))
+    (departs : (c : ℕ) → c < connections (day .file) → departureIn (areas .graph) c ≡ networkBy day areas .departure c)
+    (comes : (c : ℕ) → c < connections (day .file) → arrivalIn (areas .graph) c ≡ networkBy day areas .arrival c) where
   abbrev S : Network
-  S = shown f graph
+  S = shown (day .file) (areas .graph)
 
   abbrev N : Network
-  N = networkBy f notices
+  N = networkBy day areas
 
-  few : connections f ≤ none
+  few : connections (day .file) ≤ none
   unfolding networkOf
   few = numbered sound-by
 
@@ -85,18 +87,18 @@ module _ (f notices graph : List ℕ) (sound-by : Sound (networkBy f notices))
         ready = λ c b h. rw (comes c h);
       }
 
-  pub times-shown : (n : ℕ) → n ≤ connections f → times (shown f graph) n ≡ times (networkBy f notices) n
+  pub times-shown : (n : ℕ) → n ≤ connections (day .file) → times (shown (day .file) (areas .graph)) n ≡ times (networkBy day areas) n
   unfolding times
   times-shown zero h = refl
   times-shown (suc n) h = rw (times-shown n (omega arith), departs n (omega arith), comes n (omega arith))
 
   -- the graph is the same
-  pub graph-shown : graphOf (shown f graph) ≡ graphOf (networkBy f notices)
+  pub graph-shown : graphOf (shown (day .file) (areas .graph)) ≡ graphOf (networkBy day areas)
   unfolding graphOf networkOf
   graph-shown =
-      rw (times-shown (connections f) (omega arith), waiting-list-same S N few agree, transfer-list-same S N few agree, first-list-same S N few agree)
+      rw (times-shown (connections (day .file)) (omega arith), waiting-list-same S N few agree, transfer-list-same S N few agree, first-list-same S N few agree)
 
-  pub sound-shown : Sound (shown f graph)
+  pub sound-shown : Sound (shown (day .file) (areas .graph))
   unfolding networkOf
   sound-shown =
       record {
@@ -113,37 +115,37 @@ module _ (f notices graph : List ℕ) (sound-by : Sound (networkBy f notices))
       }
 
   -- a step of a journey is the same
-  first-shown : (a t c : ℕ) → c < connections f → canBeFirst S a t c ≡ canBeFirst N a t c
+  first-shown : (a t c : ℕ) → c < connections (day .file) → canBeFirst S a t c ≡ canBeFirst N a t c
   unfolding canBeFirst networkOf
   first-shown a t c h = rw (departs c h)
 
-  follow-shown : (e c : ℕ) → e < connections f → c < connections f → canFollow S e c ≡ canFollow N e c
+  follow-shown : (e c : ℕ) → e < connections (day .file) → c < connections (day .file) → canFollow S e c ≡ canFollow N e c
   unfolding canFollow networkOf
   follow-shown e c k h = rw (departs c h, comes e k)
 
-  choose-shown : (a t : ℕ) (w : List ℕ) (c : ℕ) → c < connections f → choose S a t w c ≡ choose N a t w c
+  choose-shown : (a t : ℕ) (w : List ℕ) (c : ℕ) → c < connections (day .file) → choose S a t w c ≡ choose N a t w c
   unfolding choose networkOf
   choose-shown a t w c h =
-      let l : leastBelow (λ e. reachedIn w e && canFollow S e c) (λ e. 0) (connections f) ≡ leastBelow (λ e. reachedIn w e && canFollow N e c) (λ e. 0) (connections f) =
-      least-same _ _ (λ e. 0) (λ e. 0) (connections f) few (λ e k. ap (λ (p : Bool). reachedIn w e && p) (follow-shown e c k h)) (λ e k. refl) in
+      let l : leastBelow (λ e. reachedIn w e && canFollow S e c) (λ e. 0) (connections (day .file)) ≡ leastBelow (λ e. reachedIn w e && canFollow N e c) (λ e. 0) (connections (day .file)) =
+      least-same _ _ (λ e. 0) (λ e. 0) (connections (day .file)) few (λ e k. ap (λ (p : Bool). reachedIn w e && p) (follow-shown e c k h)) (λ e k. refl) in
       rw (first-shown a t c h, l)
 
   rounds-shown : (a t k : ℕ) → rounds S a t k ≡ rounds N a t k
   unfolding rounds networkOf
   rounds-shown a t zero = refl
   rounds-shown a t (suc k) =
-      rw (rounds-shown a t k) (tab-same _ _ (connections f) (connections f) refl (choose-shown a t (rounds N a t k)))
+      rw (rounds-shown a t k) (tab-same _ _ (connections (day .file)) (connections (day .file)) refl (choose-shown a t (rounds N a t k)))
 
   -- so are the predecessors
   predecessors-shown : (a t : ℕ) → predecessors S a t ≡ predecessors N a t
   unfolding predecessors networkOf
-  predecessors-shown a t = rounds-shown a t (connections f)
+  predecessors-shown a t = rounds-shown a t (connections (day .file))
 
   -- so is the journey that is read out of them
   module _ (a b t : ℕ) (w : List ℕ) where
     last-shown : lastTo S w b ≡ lastTo N w b
     unfolding lastTo arriving networkOf
-    last-shown = least-same _ _ (S .arrival) (N .arrival) (connections f) few (λ e l. refl) comes
+    last-shown = least-same _ _ (S .arrival) (N .arrival) (connections (day .file)) few (λ e l. refl) comes
 
     nowhere-shown : nowhere S w a b ≡ nowhere N w a b
     unfolding nowhere
@@ -166,9 +168,9 @@ module _ (f notices graph : List ℕ) (sound-by : Sound (networkBy f notices))
       (λ q. rw (journey-here N W a b q) refl)
       (λ u.
       let m : lastTo N W b ≡ none → ⊥ = eqb-false _ _ (rw (ne-eqb a b u) at e) in
-      let l : lastTo N W b < connections f =
-      ⊎-elim (λ x. absurd (m (x .0))) (λ x. x .below) (least-is (arriving N W b) (N .arrival) (connections f) few) in
-      let g = follow-begins W (connections f) (lastTo N W b) (omega (arith, l)) in
+      let l : lastTo N W b < connections (day .file) =
+      ⊎-elim (λ x. absurd (m (x .0))) (λ x. x .below) (least-is (arriving N W b) (N .arrival) (connections (day .file)) few) in
+      let g = follow-begins W (connections (day .file)) (lastTo N W b) (omega (arith, l)) in
       rw (journey-there N W a b u, g .1) (comes (lastTo N W b) l))
       (by-eq a b)
 
@@ -180,33 +182,33 @@ module _ (f notices graph : List ℕ) (sound-by : Sound (networkBy f notices))
       rw (predecessors-shown a t, nowhere-shown a b t W, journey-shown a b t W) (go (nowhere N W a b) (arrives-shown a b t))
     where
       go : (p : Bool) → (p ≡ false → arrives S t (journeyIn N (predecessors N a t) a b) ≡ arrives N t (journeyIn N (predecessors N a t) a b))
-          → answered p S t (journeyIn N (predecessors N a t) a b) (predecessors N a t ++ drop (connections f) work) journey
-          ≡ answered p N t (journeyIn N (predecessors N a t) a b) (predecessors N a t ++ drop (connections f) work) journey
+          → answered p S t (journeyIn N (predecessors N a t) a b) (predecessors N a t ++ drop (connections (day .file)) work) journey
+          ≡ answered p N t (journeyIn N (predecessors N a t) a b) (predecessors N a t ++ drop (connections (day .file)) work) journey
       go true h = refl
       go false h = rw (h refl)
 
 -- areas that are ready
-module _ (f notices graph : List ℕ) (r : Ready f notices graph) where
-  abbrev departs : (c : ℕ) → c < connections f → departureIn graph c ≡ networkBy f notices .departure c
-  departs = departure-read f notices graph r
+module _ (day : Day) (areas : Areas) (r : Ready day areas) where
+  abbrev departs : (c : ℕ) → c < connections (day .file) → departureIn (areas .graph) c ≡ networkBy day areas .departure c
+  departs = departure-read day areas r
 
-  abbrev comes : (c : ℕ) → c < connections f → arrivalIn graph c ≡ networkBy f notices .arrival c
-  comes = arrival-read f notices graph r
+  abbrev comes : (c : ℕ) → c < connections (day .file) → arrivalIn (areas .graph) c ≡ networkBy day areas .arrival c
+  comes = arrival-read day areas r
 
   -- can be read without the notices
-  pub readable : Readable f graph
+  pub readable : Readable (day .file) (areas .graph)
   readable =
       record {
         timetable = r .timetable;
-        sound = sound-shown f notices graph (sound f notices graph r) departs comes;
-        drawn = r .drawn ∙ ap (λ (g : List ℕ). g ++ drop (graphLength f) graph) (sym (graph-shown f notices graph (sound f notices graph r) departs comes));
+        sound = sound-shown day areas (sound day areas r) departs comes;
+        drawn = r .drawn ∙ ap (λ (g : List ℕ). g ++ drop (graphLength (day .file)) (areas .graph)) (sym (graph-shown day areas (sound day areas r) departs comes));
       }
 
   -- an enquiry answers the same by what they show
-  pub searched-shown : (a b t : ℕ) (work journey : List ℕ) → searched Passed (shown f graph) a b t work journey ≡ searched Passed (networkBy f notices) a b t work journey
-  searched-shown = searched-same f notices graph (sound f notices graph r) departs comes
+  pub searched-shown : (a b t : ℕ) (work journey : List ℕ) → searched Passed (shown (day .file) (areas .graph)) a b t work journey ≡ searched Passed (networkBy day areas) a b t work journey
+  searched-shown = searched-same day areas (sound day areas r) departs comes
 
   -- and so does a margin
-  pub margin-shown : (c d : ℕ) → c < connections f → d < connections f → marginOf (shown f graph) c d ≡ marginOf (networkBy f notices) c d
+  pub margin-shown : (c d : ℕ) → c < connections (day .file) → d < connections (day .file) → marginOf (shown (day .file) (areas .graph)) c d ≡ marginOf (networkBy day areas) c d
   unfolding marginOf networkOf
   margin-shown c d h k = rw (departs d k, comes c h)

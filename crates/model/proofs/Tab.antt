@@ -7,7 +7,7 @@ use native.Mathlib.Omega.{arith}
 use lib.ListN.{length, getD, length-append, List·getD-append}
 use lib.Seq.{getD-at, ext-getD}
 use Rattle.model.specs.Least.{tab}
-use Rattle.model.proofs.Tests.{by-last}
+use Rattle.model.proofs.ByCases.{by-last}
 
 pub length-tab : (f : ℕ → ℕ) (n : ℕ) → length (tab f n) ≡ n
 unfolding tab

@@ -11,8 +11,9 @@ use Rattle.timetable.specs.File.{connections, to, scheduledDeparture, scheduled
 use Rattle.timetable.specs.Accepted.{Timetable}
 use Rattle.model.specs.Notices.{Notice, mostStanding, Ascending, WellFormed}
 use Rattle.model.specs.Network.{Sound}
+use Rattle.model.specs.Day.{Day}
 use Rattle.model.specs.Times.{Conditions, conditionsOf, primaryDelay, ownDeparture, travelTime, expectedDeparture, expectedArrival, networkWith, networkOf}
-use Rattle.model.proofs.Tests.{by-lt, by-eq, by-bool}
+use Rattle.model.proofs.ByCases.{by-lt, by-eq, by-bool}
 
 -- one of the notices is for connection c and has delay d
 pub record NoticeOf (c d : ℕ) (ns : List Notice) : Type 0 where
@@ -181,7 +182,8 @@ module _ (f : List ℕ) (table : Timetable f) where
   pub on-time-arrival : (c : ℕ) → c < connections f → expectedArrival f (conditionsOf []) c ≡ scheduledArrival f c
   on-time-arrival c h = omega (arith, on-time c h, arrival-late (conditionsOf []) c h)
 
-  -- the network of an accepted timetable with any notices that may stand together
-  pub network-sound : (ns : List Notice) → WellFormed (connections f) ns → Sound (networkOf f ns)
-  unfolding networkOf
-  network-sound ns rows = sound-with (conditionsOf ns) (λ c h. primary-most c (connections f) 0 ns (rows .ascending))
+-- the network of a day whose timetable is accepted, with any notices that may stand together
+pub network-sound : (day : Day) → Timetable (day .file) → (ns : List Notice) → WellFormed (connections (day .file)) ns → Sound (networkOf day ns)
+unfolding networkOf
+network-sound day table ns rows =
+    sound-with (day .file) table (conditionsOf ns) (λ c h. primary-most c (connections (day .file)) 0 ns (rows .ascending))

@@ -14,7 +14,9 @@ canBeFirst net a t c = eqb (net .from c) a && leb t (net .departure c)
 
 -- c starts where e ends, and is the next of e's trip or leaves when a passenger of e is ready, or later
 unfoldable pub canFollow : Network → ℕ → ℕ → Bool
-canFollow net e c = eqb (net .from c) (net .to e) && ((net .staysAboard c && eqb c (suc e)) || leb (ready net e (board net c)) (net .departure c))
+canFollow net e c =
+    eqb (net .from c) (net .to e)
+    && ((net .staysAboard c && eqb c (suc e)) || leb (ready net e (board net c)) (net .departure c))
 
 -- a journey from a at time t that is not empty, its last connection first
 pub data Ends (net : Network) (a t : ℕ) : List ℕ → Type 0 where
@@ -35,7 +37,7 @@ arrives net t (c ∷ js) = net .arrival c
 pub data NotAfter : List ℕ → List ℕ → Type 0 where
   stops : {ys : List ℕ} → NotAfter [] ys
   lower : {x y : ℕ} {xs ys : List ℕ} → x < y → NotAfter (x ∷ xs) (y ∷ ys)
-  same : {x : ℕ} {xs ys : List ℕ} → NotAfter xs ys → NotAfter (x ∷ xs) (x ∷ ys)
+  beyond : {x : ℕ} {xs ys : List ℕ} → NotAfter xs ys → NotAfter (x ∷ xs) (x ∷ ys)
 
 -- js is the answer to an enquiry from a to b at time t: valid, none arrives earlier, and of those that arrive when it does
 -- it is the first in the order

@@ -1,12 +1,16 @@
+pub mod RefusalNumber
 pub mod Least
 pub mod Notices
 pub mod Network
+pub mod Day
 pub mod Times
 pub mod Graph
 pub mod Order
 pub mod Journeys
 pub mod Predecessors
 pub mod Margin
+pub mod Drawn
+pub mod Parts
 pub mod Operations
 pub mod Ready
 pub mod Shown

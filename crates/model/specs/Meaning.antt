@@ -4,6 +4,7 @@ use mathlib.Core.List.{List, _++_, reverse}
 use Prim.Native.Nat.{ℕ}
 use lib.ListN.{length, drop}
 use Rattle.timetable.specs.Answers.{Answer, accepted, refused}
+use Rattle.model.specs.RefusalNumber as refusal
 use Rattle.model.specs.Network.{Network}
 use Rattle.model.specs.Journeys.{arrives, Best, Unreachable}
 use Rattle.model.specs.Operations.{Arrival}
@@ -20,4 +21,4 @@ pub record Journey (net : Network) (a b t : ℕ) (journey₀ journey : List ℕ)
 -- an answer is such a journey, and refusal 30 means that there is none
 pub record Means (net : Network) (a b t : ℕ) (journey₀ journey : List ℕ) (answer : Answer Arrival) : Type 0 where
   pub answered : (v : Arrival) → answer ≡ accepted v → Journey net a b t journey₀ journey v
-  pub refused-30 : (p : ℕ) → answer ≡ refused 30 p → Unreachable net a b t
+  pub refused-30 : (p : ℕ) → answer ≡ refused refusal.unreachable p → Unreachable net a b t

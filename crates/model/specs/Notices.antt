@@ -1,5 +1,6 @@
 -- Notices, the notice area, and its check. Row width, room, area length and limits are named here and nowhere else.
 -- Assumes nothing.
+use mathlib.Core.Path.{_≡_}
 use mathlib.Core.Bool.{Bool, true, false, cond, not, _&&_}
 use mathlib.Core.List.{List, [], _∷_, _++_}
 use Prim.Native.Nat.{ℕ, zero, suc, _+_, _*_, _-_, _≤_, _<_}
@@ -8,6 +9,7 @@ use lib.ListN.{length, getD, drop, replicate}
 use Rattle.timetable.specs.Answers.{refuseIf, orElse}
 use Rattle.timetable.specs.declared.Verdict.{Verdict}
 use Rattle.timetable.specs.declared.Verdict.the-variants.{Passed}
+use Rattle.model.specs.RefusalNumber as refusal
 
 -- the numbers of one row
 abbrev pub width : ℕ
@@ -39,6 +41,10 @@ pub record Notice : Type 0 where
 abbrev pub notice : ℕ → ℕ → ℕ → Notice
 notice n c d = record { number = n; connection = c; delay = d }
 
+-- a row that no notice uses
+abbrev pub unusedRow : Notice
+unusedRow = notice 0 0 0
+
 -- a row's numbers
 abbrev pub numbersIn : Notice → List ℕ
 numbersIn n = n .number ∷ n .connection ∷ n .delay ∷ []
@@ -61,9 +67,21 @@ cut (suc k) xs = rowAt xs ∷ cut k (drop width xs)
 unfoldable pub areaOf : List Notice → List ℕ
 areaOf ns = length ns ∷ (flat ns ++ replicate (width * room - width * length ns) 0)
 
+-- an area with these notices in place of its own; what lies behind it stays
+abbrev pub areaWith : List Notice → List ℕ → List ℕ
+areaWith ns area = areaOf ns ++ drop noticesLength area
+
+-- how many notices stand by an area
+abbrev pub countIn : List ℕ → ℕ
+countIn area = getD area 0 0
+
 -- the notices that stand by an area
 unfoldable pub rowsOf : List ℕ → List Notice
-rowsOf area = cut (getD area 0 0) (drop 1 area)
+rowsOf area = cut (countIn area) (drop 1 area)
+
+-- the area's other rows
+abbrev pub unusedOf : List ℕ → List Notice
+unusedOf area = cut (room - countIn area) (drop (1 + width * countIn area) area)
 
 -- a notice of this number stands
 unfoldable pub stands : ℕ → List Notice → Bool
@@ -88,17 +106,23 @@ standsRight C before n = ltb before (n .number) && ltb (n .connection) C && leb 
 unfoldable pub unusedRight : Notice → Bool
 unusedRight n = eqb (n .number) 0 && eqb (n .connection) 0 && eqb (n .delay) 0
 
--- refusal 23 of some rows of which the first is row k: so many of them stand, the others are unused
-unfoldable pub rowsFrom : ℕ → ℕ → ℕ → ℕ → List Notice → Verdict
-rowsFrom C k before count [] = Passed
-rowsFrom C k before zero (n ∷ ns) = orElse (refuseIf (not (unusedRight n)) 23 k) (rowsFrom C (suc k) before zero ns)
-rowsFrom C k before (suc count) (n ∷ ns) =
-    orElse (refuseIf (not (standsRight C before n)) 23 k) (rowsFrom C (suc k) (n .number) count ns)
+-- refusal 23 of some rows of which the first is row k: the first that a test finds wrong after the number of the row before
+unfoldable pub rowsFrom : (ℕ → Notice → Bool) → ℕ → ℕ → List Notice → Verdict
+rowsFrom right k before [] = Passed
+rowsFrom right k before (n ∷ ns) =
+    orElse (refuseIf (not (right before n)) refusal.wrongRow k) (rowsFrom right (suc k) (n .number) ns)
 
--- refusal 23 of a notice area: at 0 for a count above the room, else at the first wrong row, counted from 1
+-- refusal 23 of an area's rows that stand, counted from 1, and of the others
+abbrev pub standingVerdict : ℕ → List ℕ → Verdict
+standingVerdict C area = rowsFrom (standsRight C) 1 0 (rowsOf area)
+
+abbrev pub unusedVerdict : List ℕ → Verdict
+unusedVerdict area = rowsFrom (λ before. unusedRight) (suc (countIn area)) 0 (unusedOf area)
+
+-- refusal 23 of a notice area: at 0 for a count above the room, else at the first wrong row
 unfoldable pub rowsVerdict : ℕ → List ℕ → Verdict
 rowsVerdict C area =
-    orElse (refuseIf (ltb room (getD area 0 0)) 23 0) (rowsFrom C 1 0 (getD area 0 0) (cut room (drop 1 area)))
+    orElse (refuseIf (ltb room (countIn area)) refusal.wrongRow 0) (orElse (standingVerdict C area) (unusedVerdict area))
 
 -- a notice within its limits
 pub record Within (C : ℕ) (n : Notice) : Type 0 where
@@ -115,3 +139,9 @@ Ascending C before (n ∷ ns) = (before < n .number) × Within C n × Ascending 
 pub record WellFormed (C : ℕ) (ns : List Notice) : Type 0 where
   pub ascending : Ascending C 0 ns
   pub fits : length ns ≤ room
+
+-- an area whose notices may stand together with C connections, and which is that of its notices
+pub record Standing (C : ℕ) (area : List ℕ) : Type 0 where
+  pub long : noticesLength ≤ length area
+  pub rows : WellFormed C (rowsOf area)
+  pub noted : area ≡ areaWith (rowsOf area) area

@@ -57,5 +57,6 @@ StandsBefore net a t c e = ((js : List ℕ) × Ends net a t (e ∷ js)) × (canF
 -- document 01's sentence on the entry p of connection c in the work area
 pub data Predecessor (net : Network) (a t c : ℕ) : ℕ → Type 0 where
   own : {p : ℕ} → canBeFirst net a t c ≡ true → p ≡ c → Predecessor net a t c p
-  before : {p : ℕ} → canBeFirst net a t c ≡ false → StandsBefore net a t c p → ((e : ℕ) → StandsBefore net a t c e → p ≤ e) → Predecessor net a t c p
+  before : {p : ℕ} → canBeFirst net a t c ≡ false → StandsBefore net a t c p → ((e : ℕ) → StandsBefore net a t c e → p ≤ e)
+      → Predecessor net a t c p
   unreached : {p : ℕ} → ((js : List ℕ) → Ends net a t (c ∷ js) → ⊥) → p ≡ none → Predecessor net a t c p

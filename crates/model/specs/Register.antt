@@ -6,6 +6,7 @@ use Prim.Native.Nat.{ℕ}
 use lib.Dec.{leb, eqb}
 use lib.ListN.{length}
 use Rattle.timetable.specs.Answers.{Answer, accepted, refused}
+use Rattle.model.specs.RefusalNumber as refusal
 use Rattle.model.specs.Notices.{Notice, notice, room, leastDelay, mostPosted, stands, entered, struck}
 
 -- a call of a run, with its own numbers
@@ -27,15 +28,15 @@ accept register n = record { answer = accepted n; register = register }
 
 unfoldable pub registerStep : ℕ → List Notice → Call → Step
 registerStep C register (posting n c d) =
-    cond (eqb n 0) (refuse register 12)
-    (cond (leb C c) (refuse register 13)
-    (cond (not (leb leastDelay d && leb d mostPosted)) (refuse register 14)
-    (cond (stands n register) (refuse register 25)
-    (cond (leb room (length register)) (refuse register 26)
+    cond (eqb n 0) (refuse register refusal.noNumber)
+    (cond (leb C c) (refuse register refusal.unknownConnection)
+    (cond (not (leb leastDelay d && leb d mostPosted)) (refuse register refusal.wrongDelay)
+    (cond (stands n register) (refuse register refusal.standsAlready)
+    (cond (leb room (length register)) (refuse register refusal.noRoom)
     (accept (entered (notice n c d) register) n)))))
 registerStep C register (withdrawal n) =
-    cond (eqb n 0) (refuse register 12)
-    (cond (not (stands n register)) (refuse register 27)
+    cond (eqb n 0) (refuse register refusal.noNumber)
+    (cond (not (stands n register)) (refuse register refusal.notStanding)
     (accept (struck n register) n))
 
 -- the register's answers to a list of calls, and the register after it

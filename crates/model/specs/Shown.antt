@@ -7,7 +7,7 @@ use Rattle.timetable.specs.File.{stops, connections, from, to, staysAboard, tra
 use Rattle.timetable.specs.Accepted.{Timetable}
 use Rattle.model.specs.Network.{Network, Sound}
 use Rattle.model.specs.Graph.{graphOf, departureIn, arrivalIn}
-use Rattle.model.specs.Operations.{graphLength}
+use Rattle.model.specs.Drawn.{graphLength}
 
 -- the network of a timetable with the times that a graph area shows
 abbrev pub shown : List ℕ → List ℕ → Network

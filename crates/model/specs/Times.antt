@@ -1,4 +1,4 @@
--- Delays and expected times (document 01: times in force), and the network of a timetable with its notices. Assumes nothing.
+-- Delays and expected times (document 01: times in force), and the network of a day with its notices. Assumes nothing.
 use mathlib.Core.Bool.{cond}
 use mathlib.Core.List.{List, [], _∷_}
 use Prim.Native.Nat.{ℕ, zero, suc, _+_, _-_, max}
@@ -6,6 +6,7 @@ use lib.Dec.{eqb}
 use Rattle.timetable.specs.File.{stops, connections, transferTime, from, to, scheduledDeparture, scheduledArrival, staysAboard}
 use Rattle.model.specs.Notices.{Notice}
 use Rattle.model.specs.Network.{Network}
+use Rattle.model.specs.Day.{Day}
 
 -- the primary delay (document 01: own delay): the largest delay among a connection's notices, 0 without one
 unfoldable pub primaryDelay : ℕ → List Notice → ℕ
@@ -53,6 +54,6 @@ networkWith f conditions =
       transferTime = λ c b. transferTime f (to f c);
     }
 
--- the network of a timetable and the notices that stand
-unfoldable pub networkOf : List ℕ → List Notice → Network
-networkOf f ns = networkWith f (conditionsOf ns)
+-- the network of a day and the notices that stand
+unfoldable pub networkOf : Day → List Notice → Network
+networkOf day ns = networkWith (day .file) (conditionsOf ns)

@@ -1,5 +1,4 @@
-pub mod Places
-pub mod Turns
-pub mod Ends
-pub mod Delays
-pub mod Standing
+pub mod StoredRow
+pub mod Finding
+pub mod Pushing
+pub mod ClosingUp

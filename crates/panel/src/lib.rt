@@ -1,18 +1,14 @@
 // The library's operations for C, over areas of bytes, with their answers as numbers.
 ghost use mathlib.Core.Path.{_≡_};
-ghost use Rattle.numbers.specs.Numbers.{numbersOf, overBytes};
+ghost use Rattle.numbers.specs.Numbers.{numbersOf};
 ghost use Rattle.timetable.specs.Check.{checkedAnswer};
+ghost use Rattle.model.specs.Day.{dayOf};
 ghost use Rattle.model.specs.Operations.{built, posted, withdrawn, enquired, margined};
-ghost use Rattle.codes.specs.Encoded.{coded, codedCounts, codedArrival, codedMargin};
-
-// The notice area's stated length: `noticesLength`.
-const MOST_NOTICES: usize = 601;
-
-// The longest graph area: `mostGraph`.
-const MOST_GRAPH: usize = 8500;
-
-// The most connections: `maxConnections`.
-const MOST_CONNECTIONS: usize = 2000;
+ghost use Rattle.codes.specs.Encoded.{coded, codedCounts, codedMargin};
+ghost use Rattle.fronts.specs.Fronts.{lentBytes};
+ghost use Rattle.updates.specs.Updated.{codedBy, OutcomeBytes};
+ghost use Rattle.enquiries.specs.Enquired.{EnquiryBytes};
+use updates::Update;
 
 // Checks a file.
 #[no_mangle]
@@ -25,13 +21,12 @@ pub extern "C" fn ttg_check(file: &[u8]) -> u64
 // An empty notice area and the graph without notices.
 #[no_mangle]
 pub extern "C" fn ttg_build(file: &[u8], notices: &mut [u8], graph: &mut [u8]) -> u64
-    ensures { λ r. ⌜ (let o = built (now (file .entry)) (numbersOf (now (notices .entry))) (numbersOf (now (graph .entry))) in (r ≡ codedCounts (o .answer)) × (now (notices .exit) ≡ overBytes (o .notices) (now (notices .entry))) × (now (graph .exit) ≡ overBytes (o .graph) (now (graph .entry)))) ⌝ }
+    ensures { λ r.
+        ⌜ OutcomeBytes
+        (codedBy codedCounts (built (dayOf (now (file .entry))) (lentBytes (now (notices .entry)) (now (graph .entry)))))
+        (now (notices .entry)) (now (graph .entry)) r (now (notices .exit)) (now (graph .exit)) ⌝ }
 {
-    let mut n = [0u16; MOST_NOTICES];
-    let mut g = [0u16; MOST_GRAPH];
-    let k = fronts::front_length(MOST_NOTICES, notices);
-    let m = fronts::front_length(MOST_GRAPH, graph);
-    fronts::build_bytes(file, notices, graph, &mut n[0..k], &mut g[0..m])
+    updates::update_bytes(file, notices, graph, Update::Build)
 }
 
 // A notice posted.
@@ -44,22 +39,13 @@ pub extern "C" fn ttg_post(
     ride: u16,
     delay: u16,
 ) -> u64
-    ensures { λ r. ⌜ (let o = posted (now (file .entry)) (numbersOf (now (notices .entry))) (numbersOf (now (graph .entry))) number ride delay in (r ≡ coded (o .answer)) × (now (notices .exit) ≡ overBytes (o .notices) (now (notices .entry))) × (now (graph .exit) ≡ overBytes (o .graph) (now (graph .entry)))) ⌝ }
+    ensures { λ r.
+        ⌜ OutcomeBytes
+        (codedBy coded
+        (posted (dayOf (now (file .entry))) (lentBytes (now (notices .entry)) (now (graph .entry))) number ride delay))
+        (now (notices .entry)) (now (graph .entry)) r (now (notices .exit)) (now (graph .exit)) ⌝ }
 {
-    let mut n = [0u16; MOST_NOTICES];
-    let mut g = [0u16; MOST_GRAPH];
-    let k = fronts::front_length(MOST_NOTICES, notices);
-    let m = fronts::front_length(MOST_GRAPH, graph);
-    fronts::post_bytes(
-        file,
-        notices,
-        graph,
-        &mut n[0..k],
-        &mut g[0..m],
-        number,
-        ride,
-        delay,
-    )
+    updates::update_bytes(file, notices, graph, Update::Post(number, ride, delay))
 }
 
 // A notice withdrawn.
@@ -70,13 +56,13 @@ pub extern "C" fn ttg_withdraw(
     graph: &mut [u8],
     number: u16,
 ) -> u64
-    ensures { λ r. ⌜ (let o = withdrawn (now (file .entry)) (numbersOf (now (notices .entry))) (numbersOf (now (graph .entry))) number in (r ≡ coded (o .answer)) × (now (notices .exit) ≡ overBytes (o .notices) (now (notices .entry))) × (now (graph .exit) ≡ overBytes (o .graph) (now (graph .entry)))) ⌝ }
+    ensures { λ r.
+        ⌜ OutcomeBytes
+        (codedBy coded
+        (withdrawn (dayOf (now (file .entry))) (lentBytes (now (notices .entry)) (now (graph .entry))) number))
+        (now (notices .entry)) (now (graph .entry)) r (now (notices .exit)) (now (graph .exit)) ⌝ }
 {
-    let mut n = [0u16; MOST_NOTICES];
-    let mut g = [0u16; MOST_GRAPH];
-    let k = fronts::front_length(MOST_NOTICES, notices);
-    let m = fronts::front_length(MOST_GRAPH, graph);
-    fronts::withdraw_bytes(file, notices, graph, &mut n[0..k], &mut g[0..m], number)
+    updates::update_bytes(file, notices, graph, Update::Withdraw(number))
 }
 
 // The journey that arrives first, and the predecessor of each connection.
@@ -91,40 +77,22 @@ pub extern "C" fn ttg_enquire(
     to: u16,
     time: u16,
 ) -> u64
-    ensures { λ r. ⌜ (let e = enquired (now (file .entry)) (numbersOf (now (notices .entry))) (numbersOf (now (graph .entry))) (numbersOf (now (work .entry))) (numbersOf (now (journey .entry))) from to time in (r ≡ codedArrival (e .answer)) × (now (work .exit) ≡ overBytes (e .work) (now (work .entry))) × (now (journey .exit) ≡ overBytes (e .journey) (now (journey .entry)))) ⌝ }
+    ensures { λ r.
+        ⌜ EnquiryBytes
+        (enquired (dayOf (now (file .entry))) (lentBytes (now (notices .entry)) (now (graph .entry)))
+        (numbersOf (now (work .entry))) (numbersOf (now (journey .entry))) from to time)
+        (now (work .entry)) (now (journey .entry)) r (now (work .exit)) (now (journey .exit)) ⌝ }
 {
-    let mut n = [0u16; MOST_NOTICES];
-    let mut g = [0u16; MOST_GRAPH];
-    let mut w = [0u16; MOST_CONNECTIONS];
-    let mut j = [0u16; MOST_CONNECTIONS];
-    let k = fronts::front_length(MOST_NOTICES, notices);
-    let m = fronts::front_length(MOST_GRAPH, graph);
-    let u = fronts::front_length(MOST_CONNECTIONS, work);
-    let v = fronts::front_length(MOST_CONNECTIONS, journey);
-    fronts::enquire_bytes(
-        file,
-        notices,
-        graph,
-        work,
-        journey,
-        &mut n[0..k],
-        &mut g[0..m],
-        &mut w[0..u],
-        &mut j[0..v],
-        from,
-        to,
-        time,
-    )
+    enquiries::enquire_bytes(file, notices, graph, work, journey, from, to, time)
 }
 
 // The margin of a change from connection `ride` to connection `next`.
 #[no_mangle]
 pub extern "C" fn ttg_margin(file: &[u8], notices: &[u8], graph: &[u8], ride: u16, next: u16) -> i64
-    ensures { λ r. ⌜ r ≡ codedMargin (margined (now (file .entry)) (numbersOf (now (notices .entry))) (numbersOf (now (graph .entry))) ride next) ⌝ }
+    ensures { λ r.
+        ⌜ r
+        ≡ codedMargin
+        (margined (dayOf (now (file .entry))) (lentBytes (now (notices .entry)) (now (graph .entry))) ride next) ⌝ }
 {
-    let mut n = [0u16; MOST_NOTICES];
-    let mut g = [0u16; MOST_GRAPH];
-    let k = fronts::front_length(MOST_NOTICES, notices);
-    let m = fronts::front_length(MOST_GRAPH, graph);
-    fronts::margin_bytes(file, notices, graph, &mut n[0..k], &mut g[0..m], ride, next)
+    enquiries::margin_bytes(file, notices, graph, ride, next)
 }

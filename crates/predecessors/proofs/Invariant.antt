@@ -19,15 +19,15 @@ use Rattle.model.specs.Graph.{ready, waiting, transfer}
 use Rattle.model.specs.Journeys.{canBeFirst, canFollow}
 use Rattle.model.specs.Predecessors.{reachedIn, predecessors}
 use Rattle.model.specs.Order.{Slot}
-use Rattle.model.proofs.Tests.{by-lt, by-eq, by-last, by-bool, and-left, and-right, and-both}
+use Rattle.model.proofs.ByCases.{by-lt, by-eq, by-last, by-bool, and-left, and-right, and-both}
 use Rattle.model.proofs.Follows.{Aboard, Change, follow-means, change-follows, aboard-follows, keeps-stop, follows-later}
 use Rattle.model.proofs.Boards.{change-on, on-change, Behind, waiting-listed, transfer-listed, entry-holds, entry-first}
 use Rattle.model.proofs.Rounds.{length-predecessors, numbered}
 use Rattle.model.proofs.Journeys.{pred, Before, Entry, itself, lowest, nothing, entry}
 use Rattle.predecessors.specs.Visits.{settled, visited, turned}
-use Rattle.model.proofs.Places.{Rises, place-early, place-order, place-le, place-same}
+use Rattle.model.proofs.PlaceOrder.{Rises, place-early, place-order, place-le, place-same}
 use Rattle.predecessors.proofs.Steps.{aboard-positive, turn-visits, turn-skips}
-use Rattle.predecessors.proofs.Visited.{Turn, visited-turn}
+use Rattle.predecessors.proofs.Visited.{Leaves, visited-leaves}
 
 module _ (net : Network) (a t : ℕ) (place : ℕ → ℕ) where
   abbrev n : ℕ
@@ -209,7 +209,7 @@ module _ (net : Network) (a t : ℕ) (place : ℕ → ℕ) where
           (λ (r : place c ≤ place x). let p : place x ≤ place c = place-le (net .departure) n place few rises x c k l m in same x c k l (omega arith))
           (by-lt (place x) (place c))
 
-      module _ (after : List ℕ) (turn : Turn net a t work d after) where
+      module _ (after : List ℕ) (left : Leaves net a t work d after) where
         other : (c : ℕ) → (place c ≡ i → ⊥) → c ≡ d → ⊥
         other c u q = u (ap place q ∙ here)
 
@@ -223,7 +223,7 @@ module _ (net : Network) (a t : ℕ) (place : ℕ → ℕ) where
             (λ w. absurd (omega (arith, after-wait (omega (arith, w .0)), ap place (w .0))))
             (λ m. absurd (omega (arith, after-move (omega (arith, m .0)), ap place (m .0))))
             o)
-            (turn .source c l (other c (λ q. omega arith)))
+            (left .source c l (other c (λ q. omega arith)))
 
         -- what is offered is still reached and can be changed from
         still-offers : (c : ℕ) → c < n → suc i ≤ place c → getD after c none < none → Offer c (getD after c none)
@@ -242,7 +242,7 @@ module _ (net : Network) (a t : ℕ) (place : ℕ → ℕ) where
             let g : Change net d c = rw (m .0) (moves (omega (arith, m .0))) in
             rw (m .2) (h, omega (arith, settled-is, m .1), g))
             o)
-            (turn .source c l (other c (λ q. omega arith)))
+            (left .source c l (other c (λ q. omega arith)))
 
         -- d's own number has come to where it can be changed to, if nothing unvisited is between
         own : (c : ℕ) → c < n → suc i ≤ place c → Offer c d → Clear (suc i) d c → getD after c none ≤ d
@@ -251,7 +251,7 @@ module _ (net : Network) (a t : ℕ) (place : ℕ → ℕ) where
             let f = entry-first net sound (transfer-listed net sound d (net .to d)) c l (on-change net d c m) in
             let u = moves (f .0) in
             let q : transfer net d ≡ c = only (transfer net d) c (f .0) l (after-move (f .0)) (f .1) (λ k. z (transfer net d) (f .0) (u .0 ∙ sym (m .0)) (u .1) k) in
-            rw q at (turn .moved (f .0) (λ e. away (sym e)) (omega (arith, settled-is, o .1)))
+            rw q at (left .moved (f .0) (λ e. away (sym e)) (omega (arith, settled-is, o .1)))
 
         -- a number that d held has come to the next departure from d's stop
         handed : (c e : ℕ) → c < n → suc i ≤ place c → Offer c e → net .from c ≡ net .from d → ready net e (net .from d) ≤ net .departure d → Clear (suc i) e c → getD after c none ≤ e
@@ -261,14 +261,14 @@ module _ (net : Network) (a t : ℕ) (place : ℕ → ℕ) where
             let p = after-wait (w .0) in
             let k : net .departure d ≤ net .departure (waiting net d) = omega (arith, u .1, w .0, few) in
             let q : waiting net d ≡ c = only (waiting net d) c (w .0) l p (w .1) (λ j. z (waiting net d) (w .0) (u .0 ∙ sym f) (rw (u .0) (omega (arith, k))) j) in
-            let y : getD after c none ≤ b = rw q at (turn .waited (w .0) (λ e. omega (arith, ap place e, p))) in
+            let y : getD after c none ≤ b = rw q at (left .waited (w .0) (λ e. omega (arith, ap place e, p))) in
             omega (arith, y, all-collected e (o .0, o .1, (sym f ∙ o .2 .0, g)))
 
         -- where d is not between, what was collected stays
         stayed : (c e : ℕ) → c < n → suc i ≤ place c → place e < i → Offer c e → (net .from d ≡ net .from c → ready net e (net .from d) ≤ net .departure d → ⊥) → Clear (suc i) e c → getD after c none ≤ e
         stayed c e l r q o out z =
             let y : getD work c none ≤ e = s .collected c e l (omega arith) q o (λ x j f g p. ⊎-elim (λ v. v) (λ v. let u : x ≡ d = same x d j h (v ∙ sym here) in absurd (out (rw u at f) (rw u at g))) (by-last (z x j f g p))) in
-            omega (arith, y, turn .no-more c l (other c (λ q. omega arith)))
+            omega (arith, y, left .no-more c l (other c (λ q. omega arith)))
 
         -- and it is still the lowest
         still-collected : (c e : ℕ) → c < n → suc i ≤ place c → place e < suc i → Offer c e → Clear (suc i) e c → getD after c none ≤ e
@@ -290,16 +290,16 @@ module _ (net : Network) (a t : ℕ) (place : ℕ → ℕ) where
         swept-turn : Swept (suc i) after
         swept-turn =
             record {
-              long = turn .kept ∙ s .long;
-              bounded = λ c l. ⊎-elim (λ q. rw q (omega (arith, turn .here, settled-is, pred-bound))) (λ u. omega (arith, turn .no-more c l u, s .bounded c l)) (by-eq c d);
-              past = λ c l r. ⊎-elim (λ k. past-kept c l k ∙ s .past c l k) (λ q. let e : c ≡ d = same c d l h (q ∙ sym here) in rw e (turn .here ∙ settled-is)) (by-last r);
+              long = left .kept ∙ s .long;
+              bounded = λ c l. ⊎-elim (λ q. rw q (omega (arith, left .here, settled-is, pred-bound))) (λ u. omega (arith, left .no-more c l u, s .bounded c l)) (by-eq c d);
+              past = λ c l r. ⊎-elim (λ k. past-kept c l k ∙ s .past c l k) (λ q. let e : c ≡ d = same c d l h (q ∙ sym here) in rw e (left .here ∙ settled-is)) (by-last r);
               offers = still-offers;
               collected = still-collected;
             }
 
       -- so the visit of d does
       swept-visit : Swept (suc i) (visited net a t work d)
-      swept-visit = swept-turn (visited net a t work d) (visited-turn net a t work d (s .long) h away)
+      swept-visit = swept-turn (visited net a t work d) (visited-leaves net a t work d (s .long) h away)
 
     -- the turn at place i, by what its slot holds
     pub swept-slot : (i x : ℕ) (work : List ℕ) → Slot place (net .connections) i x → Swept i work → Swept (i + 1) (turned net a t work x)

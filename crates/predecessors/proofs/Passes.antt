@@ -1,4 +1,5 @@
--- The pass over accepted areas: its start, a turn and its end; and a part of the work area that is lent. Assumes nothing.
+-- The pass over areas that can be read: what a slot of the order holds, its turn, and the end; and a part of the work area that
+-- is lent. Assumes nothing.
 use mathlib.Core.Path.{_≡_}
 use mathlib.Core.Logic.{⊎-elim}
 use mathlib.Core.List.{List, _++_}
@@ -6,52 +7,35 @@ use Prim.Native.Nat.{ℕ, _+_, _-_, _<_, _≤_}
 use native.Mathlib.Nat.{sub-zero}
 use native.Mathlib.Omega.{arith}
 use borrow.Rule.Slice.PartMut.{postOf, post-is}
-use lib.ListN.{length, getD, take, drop, replicate}
+use lib.ListN.{length, getD, take, drop}
 use lib.Seq.{length-take-le}
 use Rattle.timetable.specs.File.{stops, connections}
+use Rattle.timetable.specs.Room.{HasConnection}
+use Rattle.timetable.proofs.Accepted.{room-for}
 use Rattle.model.specs.Least.{none}
-use Rattle.model.specs.Network.{Network}
+use Rattle.model.specs.Graph.{departureIn}
+use Rattle.model.specs.Order.{Ordered}
 use Rattle.model.specs.Predecessors.{predecessors}
-use Rattle.model.specs.Shown.{shown}
+use Rattle.model.specs.Shown.{shown, Readable}
 use Rattle.predecessors.specs.Visits.{turned}
-use Rattle.predecessors.specs.Sweepable.{Sweepable, Turnable}
-use Rattle.predecessors.proofs.Invariant.{Swept, swept-cleared, swept-slot, swept-all}
+use Rattle.predecessors.proofs.Invariant.{Swept, swept-slot, swept-all}
 
-module _ (f graph order : List ℕ) (p : Sweepable f graph order) where
-  abbrev net : Network
-  net = shown f graph
-
-  module _ (i : ℕ) (h : i < connections f) where
-    -- the slot is one of the order's
-    pub slot-room : i < length order
-    slot-room = omega (arith, p .ordered .room)
-
-    -- what it holds can have its turn
-    pub slot-holds : (s : ℕ) → s ≡ stops f → Turnable f graph s (getD order i 0)
-    slot-holds s q =
-        record { readable = p .readable; count = q; held = λ l. ⊎-elim (λ o. absurd (omega (arith, o .0))) (λ o. o .0) (p .ordered .slots i h) }
+module _ (f graph order : List ℕ) (r : Readable f graph) (o : Ordered (departureIn graph) (connections f) (connections f) order) where
+  -- a slot holds a connection of the file, or none
+  pub slot-holds : (i : ℕ) → i < connections f → (s : ℕ) → s ≡ stops f → getD order i 0 < none → HasConnection f s (getD order i 0)
+  slot-holds i h s q l =
+      ⊎-elim (λ e. absurd (omega (arith, e .0))) (λ e. rw q (room-for f (r .timetable) (getD order i 0) (e .0))) (o .slots i h)
 
   module _ (a t : ℕ) where
-    -- the work area before slot i has its turn
-    abbrev pub Passed : ℕ → List ℕ → Type 0
-    Passed i work = Swept (shown f graph) a t (p .ordered .place) i work
-
-    -- at the start every entry is none
-    pub pass-starts : (work : List ℕ) (m : ℕ) → work ≡ replicate m none → m ≡ connections f → Passed 0 work
-    pass-starts work m e q = swept-cleared net a t (p .ordered .place) work m e q
-
-    -- there is an entry for each connection
-    pub passed-long : (i : ℕ) (work : List ℕ) → Passed i work → length work ≡ connections f
-    passed-long i work s = s .long
-
     -- slot i has its turn
-    pub pass-turn : (i : ℕ) → i < connections f → (work after : List ℕ) → Passed i work → after ≡ turned (shown f graph) a t work (getD order i 0) → Passed (i + 1) after
+    pub pass-turn : (i : ℕ) → i < connections f → (work after : List ℕ) → Swept (shown f graph) a t (o .place) i work
+        → after ≡ turned (shown f graph) a t work (getD order i 0) → Swept (shown f graph) a t (o .place) (i + 1) after
     pass-turn i h work after s e =
-        rw e (swept-slot net a t (p .ordered .place) (p .readable .sound) (p .ordered .rises) i (getD order i 0) work (p .ordered .slots i h) s)
+        rw e (swept-slot (shown f graph) a t (o .place) (r .sound) (o .rises) i (getD order i 0) work (o .slots i h) s)
 
     -- after the last slot the predecessors are there
-    pub pass-ends : (work : List ℕ) → Passed (connections f) work → work ≡ predecessors (shown f graph) a t
-    pass-ends work s = swept-all net a t (p .ordered .place) (connections f) work (p .ordered .within) s
+    pub pass-ends : (work : List ℕ) → Swept (shown f graph) a t (o .place) (connections f) work → work ≡ predecessors (shown f graph) a t
+    pass-ends work s = swept-all (shown f graph) a t (o .place) (connections f) work (o .within) s
 
 -- the first n of a list are n
 pub part-length : (l : List ℕ) (n : ℕ) → n ≤ length l → length (take (n - 0) l) ≡ n

@@ -2,7 +2,7 @@
 use mathlib.Core.Path.{_≡_, sym, _∙_}
 use mathlib.Core.Logic.{⊎-elim}
 use mathlib.Core.Bool.{true, false, false≢true}
-use mathlib.Core.List.{List, []}
+use mathlib.Core.List.{List}
 use Prim.Native.Nat.{ℕ, _-_, min, _<_, _≤_}
 use native.Mathlib.Omega.{arith}
 use borrow.Author.Tests.{lt-ltb, le-ltb}
@@ -14,8 +14,8 @@ use Rattle.model.specs.Network.{Network, Sound}
 use Rattle.model.specs.Graph.{waiting, transfer}
 use Rattle.model.specs.Journeys.{canBeFirst}
 use Rattle.model.proofs.Lists.{inside}
-use Rattle.model.proofs.Tests.{by-lt, by-bool}
-use Rattle.predecessors.specs.Visits.{offered, settled, passed, visited, turned}
+use Rattle.model.proofs.ByCases.{by-lt, by-bool}
+use Rattle.predecessors.specs.Visits.{offered, settled, passedOn, visited, turned}
 
 -- an offer as the code makes it
 module _ (l : List ℕ) (x e : ℕ) where
@@ -76,15 +76,15 @@ module _ (net : Network) (a t : ℕ) (work : List ℕ) (d : ℕ) (h : d < length
 -- the visit and the turn as the code makes them
 module _ (net : Network) (a t : ℕ) (work : List ℕ) (d : ℕ) where
   -- what has been collected is passed on, and d gets its entry
-  pub passed-is : d < length work → (w m : ℕ) (one : List ℕ) → w ≡ waiting net d → m ≡ settled net a t work d → one ≡ offered work w (getD work d 0)
-      → set one d m ≡ passed net a t work d
-  unfolding passed
-  passed-is h w m one ew em e =
+  pub passed-on-is : d < length work → (w m : ℕ) (one : List ℕ) → w ≡ waiting net d → m ≡ settled net a t work d → one ≡ offered work w (getD work d 0)
+      → set one d m ≡ passedOn net a t work d
+  unfolding passedOn
+  passed-on-is h w m one ew em e =
       let q : getD work d 0 ≡ getD work d none = inside work d 0 none h in
       rw (e, ew, em, q)
 
   -- a reached connection is offered along its transfer arc
-  pub visit-reached : (x m : ℕ) (two three : List ℕ) → x ≡ transfer net d → m ≡ settled net a t work d → two ≡ passed net a t work d → m < none → three ≡ offered two x d
+  pub visit-reached : (x m : ℕ) (two three : List ℕ) → x ≡ transfer net d → m ≡ settled net a t work d → two ≡ passedOn net a t work d → m < none → three ≡ offered two x d
       → three ≡ visited net a t work d
   unfolding visited
   visit-reached x m two three ex em e2 l e3 =
@@ -92,21 +92,21 @@ module _ (net : Network) (a t : ℕ) (work : List ℕ) (d : ℕ) where
       rw (e3, e2, ex, q)
 
   -- one that is not reached is not
-  pub visit-unreached : (m : ℕ) (two : List ℕ) → m ≡ settled net a t work d → two ≡ passed net a t work d → none ≤ m → two ≡ visited net a t work d
+  pub visit-unreached : (m : ℕ) (two : List ℕ) → m ≡ settled net a t work d → two ≡ passedOn net a t work d → none ≤ m → two ≡ visited net a t work d
   unfolding visited
   visit-unreached m two em e2 l =
       let q : ltb (settled net a t work d) none ≡ false = le-ltb (settled net a t work d) none (omega arith) in
       rw (e2, q)
 
   -- no entry comes or goes
-  pub length-passed : length (passed net a t work d) ≡ length work
-  unfolding passed offered
-  length-passed = simp length-set
+  pub length-passed-on : length (passedOn net a t work d) ≡ length work
+  unfolding passedOn offered
+  length-passed-on = simp length-set
 
   pub length-visited : length (visited net a t work d) ≡ length work
   unfolding visited offered
   length-visited =
-      ⊎-elim (λ q. rw q (simp length-set length-passed)) (λ q. rw q length-passed) (by-bool (ltb (settled net a t work d) none))
+      ⊎-elim (λ q. rw q (simp length-set length-passed-on)) (λ q. rw q length-passed-on) (by-bool (ltb (settled net a t work d) none))
 
   -- a slot that holds a connection is visited
   pub turn-visits : d < none → visited net a t work d ≡ turned net a t work d

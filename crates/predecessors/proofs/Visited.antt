@@ -10,9 +10,9 @@ use lib.Seq.{getD-set-same, getD-set-other}
 use Rattle.model.specs.Least.{none}
 use Rattle.model.specs.Network.{Network}
 use Rattle.model.specs.Graph.{waiting, transfer}
-use Rattle.model.proofs.Tests.{by-lt, by-eq}
-use Rattle.predecessors.specs.Visits.{offered, settled, passed, visited}
-use Rattle.predecessors.proofs.Steps.{length-passed, length-visited}
+use Rattle.model.proofs.ByCases.{by-lt, by-eq}
+use Rattle.predecessors.specs.Visits.{offered, settled, passedOn, visited}
+use Rattle.predecessors.proofs.Steps.{length-passed-on, length-visited}
 
 -- what an offer leaves at c
 offered-at : (l : List ℕ) (x e c : ℕ) → c < length l
@@ -37,7 +37,7 @@ module _ (net : Network) (a t : ℕ) where
       ⊎ (((c ≡ waiting net d) × (x ≡ getD work d none)) ⊎ ((c ≡ transfer net d) × (settled net a t work d < none) × (x ≡ d)))
 
   -- what a visit of d leaves
-  pub record Turn (work : List ℕ) (d : ℕ) (after : List ℕ) : Type 0 where
+  pub record Leaves (work : List ℕ) (d : ℕ) (after : List ℕ) : Type 0 where
     pub kept : length after ≡ length work
     pub here : getD after d none ≡ settled net a t work d
     pub no-more : (c : ℕ) → c < net .connections → (c ≡ d → ⊥) → getD after c none ≤ getD work c none
@@ -56,7 +56,7 @@ module _ (net : Network) (a t : ℕ) where
     one = offered work (waiting net d) b
 
     abbrev two : List ℕ
-    two = passed net a t work d
+    two = passedOn net a t work d
 
     abbrev three : List ℕ
     three = visited net a t work d
@@ -69,7 +69,7 @@ module _ (net : Network) (a t : ℕ) where
         ⊎-elim
         (λ (k : m < none).
         rw (lt-ltb m none k)
-        (⊎-elim (λ f. inl (f .1, λ q r. f .0 q)) (λ f. inr (f .0, k, f .1)) (offered-at two (transfer net d) d c (omega (arith, long, length-passed net a t work d)))))
+        (⊎-elim (λ f. inl (f .1, λ q r. f .0 q)) (λ f. inr (f .0, k, f .1)) (offered-at two (transfer net d) d c (omega (arith, long, length-passed-on net a t work d)))))
         (λ (k : none ≤ m). rw (le-ltb m none k) (inl (refl, λ q r. omega arith)))
         (by-lt m none)
 
@@ -79,7 +79,7 @@ module _ (net : Network) (a t : ℕ) where
 
       -- what the offer along the waiting arc leaves
       two-at : ((c ≡ waiting net d → ⊥) × (getD two c none ≡ getD work c none)) ⊎ ((c ≡ waiting net d) × (getD two c none ≡ min (getD work c none) b))
-      unfolding passed
+      unfolding passedOn
       two-at = rw (getD-set-other one d c m none u) (offered-at work (waiting net d) b c (omega (arith, long)))
 
       -- where an entry comes from
@@ -102,9 +102,9 @@ module _ (net : Network) (a t : ℕ) where
       at-most = ⊎-elim (λ f. omega (arith, f .0)) (λ f. omega (arith, f .2)) (three-at c l)
 
     -- the visit as the code makes it is such a turn, where no transfer arc leads back to d
-    pub visited-turn : d < net .connections → (d ≡ transfer net d → ⊥) → Turn work d (visited net a t work d)
-    unfolding passed
-    visited-turn h away =
+    pub visited-leaves : d < net .connections → (d ≡ transfer net d → ⊥) → Leaves work d (visited net a t work d)
+    unfolding passedOn
+    visited-leaves h away =
         record {
           kept = length-visited net a t work d;
           here =

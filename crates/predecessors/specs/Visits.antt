@@ -22,13 +22,13 @@ settled net a t work d =
     (getD work d none))
 
 -- what d has collected goes on along its waiting arc, and d gets its entry
-unfoldable pub passed : Network → ℕ → ℕ → List ℕ → ℕ → List ℕ
-passed net a t work d = set (offered work (waiting net d) (getD work d none)) d (settled net a t work d)
+unfoldable pub passedOn : Network → ℕ → ℕ → List ℕ → ℕ → List ℕ
+passedOn net a t work d = set (offered work (waiting net d) (getD work d none)) d (settled net a t work d)
 
 -- the visit of d: then it is offered along its transfer arc if it is reached
 unfoldable pub visited : Network → ℕ → ℕ → List ℕ → ℕ → List ℕ
 visited net a t work d =
-    cond (ltb (settled net a t work d) none) (offered (passed net a t work d) (transfer net d) d) (passed net a t work d)
+    cond (ltb (settled net a t work d) none) (offered (passedOn net a t work d) (transfer net d) d) (passedOn net a t work d)
 
 -- the turn of a slot that holds x: a visit, unless x is none
 unfoldable pub turned : Network → ℕ → ℕ → List ℕ → ℕ → List ℕ

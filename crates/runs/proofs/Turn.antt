@@ -11,8 +11,9 @@ use lib.Seq.{drop-drop, getD-drop, drop-set-lt, sets-eq, take-at}
 use Rattle.timetable.specs.Answers.{Answer}
 use Rattle.model.specs.Register.{Call}
 use Rattle.model.specs.Operations.{outcome}
-use Rattle.model.specs.Runs.{worked, Ran, ran}
-use Rattle.runs.specs.Calls.{callWidth, answerWidth, callOf, callsOf, numberOf, valueOf, toldNumbers}
+use Rattle.model.specs.Day.{Day, Areas}
+use Rattle.model.specs.Runs.{called, Ran, ran}
+use Rattle.runs.specs.Calls.{callWidth, answerWidth, callOf, callsOf, answerNumber, answerValue, toldNumbers}
 use Rattle.runs.specs.Ended.{Ended}
 
 -- the call at a place
@@ -29,11 +30,10 @@ unfolding callsOf
 length-calls zero xs = refl
 length-calls (suc k) xs = ap suc (length-calls k (drop callWidth xs))
 
-length-ran : (f notices graph : List ℕ) (calls : List Call) → length (ran f notices graph calls .answers) ≡ length calls
+length-ran : (day : Day) (areas : Areas) (calls : List Call) → length (ran day areas calls .answers) ≡ length calls
 unfolding ran
-length-ran f notices graph [] = refl
-length-ran f notices graph (call ∷ calls) =
-    let o = worked f notices graph call in ap suc (length-ran f (o .notices) (o .graph) calls)
+length-ran day areas [] = refl
+length-ran day areas (call ∷ calls) = ap suc (length-ran day (called day areas call .areas) calls)
 
 length-told : (told : List (Answer ℕ)) → length (toldNumbers told) ≡ answerWidth * length told
 unfolding toldNumbers
@@ -54,55 +54,51 @@ module _ (xs : List ℕ) (at x y : ℕ) where
   drop-pair : (j : ℕ) → at + answerWidth ≤ j → drop j (set (set xs at x) (at + 1) y) ≡ drop j xs
   drop-pair j h = drop-set-lt j (set xs at x) (at + 1) y (omega arith) ∙ drop-set-lt j xs at x (omega arith)
 
-module _ (f calls : List ℕ) (n : ℕ) where
+module _ (day : Day) (calls : List ℕ) (n : ℕ) where
   -- the run of the calls left after k of n
-  abbrev pub later : ℕ → List ℕ → List ℕ → Ran
-  later k notices graph = ran f notices graph (callsOf (n - k) (drop (callWidth * k) calls))
+  abbrev pub later : ℕ → Areas → Ran
+  later k areas = ran day areas (callsOf (n - k) (drop (callWidth * k) calls))
 
   -- k calls of n are done: what is left gives what the whole gave
-  pub record Left (o : Ran) (answers₀ : List ℕ) (k : ℕ) (notices graph answers : List ℕ) : Type 0 where
-    pub notices-are : later k notices graph .notices ≡ o .notices
-    pub graph-is : later k notices graph .graph ≡ o .graph
-    pub answers-are : take (answerWidth * k) answers ++ (toldNumbers (later k notices graph .answers) ++ drop (answerWidth * n) answers)
+  pub record Left (o : Ran) (answers₀ : List ℕ) (k : ℕ) (areas : Areas) (answers : List ℕ) : Type 0 where
+    pub areas-are : later k areas .areas ≡ o .areas
+    pub answers-are : take (answerWidth * k) answers ++ (toldNumbers (later k areas .answers) ++ drop (answerWidth * n) answers)
         ≡ toldNumbers (o .answers) ++ drop (length (toldNumbers (o .answers))) answers₀
 
-  pub start : (notices graph answers : List ℕ) → Left (ran f notices graph (callsOf n calls)) answers 0 notices graph answers
-  start notices graph answers =
-      let o = ran f notices graph (callsOf n calls) in
-      let l : length (toldNumbers (o .answers)) ≡ answerWidth * n = length-told (o .answers) ∙ ap (λ (m : ℕ). answerWidth * m) (length-ran f notices graph (callsOf n calls) ∙ length-calls n calls) in
-      record { notices-are = rw sub-zero; graph-is = rw sub-zero; answers-are = rw (sub-zero, l) }
+  pub start : (areas : Areas) (answers : List ℕ) → Left (ran day areas (callsOf n calls)) answers 0 areas answers
+  start areas answers =
+      let o = ran day areas (callsOf n calls) in
+      let l : length (toldNumbers (o .answers)) ≡ answerWidth * n = length-told (o .answers) ∙ ap (λ (m : ℕ). answerWidth * m) (length-ran day areas (callsOf n calls) ∙ length-calls n calls) in
+      record { areas-are = rw sub-zero; answers-are = rw (sub-zero, l) }
 
   -- a call and those after it
-  later-more : (k : ℕ) (notices graph notices′ graph′ : List ℕ) (r : Answer ℕ) → k < n
-      → outcome r notices′ graph′ ≡ worked f notices graph (callAt calls (callWidth * k))
-      → later k notices graph
-      ≡ record { answers = r ∷ later (k + 1) notices′ graph′ .answers; notices = later (k + 1) notices′ graph′ .notices; graph = later (k + 1) notices′ graph′ .graph }
+  later-more : (k : ℕ) (areas areas′ : Areas) (r : Answer ℕ) → k < n
+      → outcome r areas′ ≡ called day areas (callAt calls (callWidth * k))
+      → later k areas ≡ record { answers = r ∷ later (k + 1) areas′ .answers; areas = later (k + 1) areas′ .areas }
   unfolding ran
-  later-more k notices graph notices′ graph′ r h e =
+  later-more k areas areas′ r h e =
       let b : n - k ≡ suc (n - (k + 1)) = omega arith in
       let d : callWidth * (k + 1) ≡ callWidth * k + callWidth = omega arith in
       rw (b, d, calls-more, ← e)
 
-  pub turn : (o : Ran) (answers₀ : List ℕ) (k : ℕ) (notices graph answers notices′ graph′ : List ℕ) (r : Answer ℕ) → k < n → answerWidth * n ≤ length answers
-      → outcome r notices′ graph′ ≡ worked f notices graph (callAt calls (callWidth * k))
-      → Left o answers₀ k notices graph answers
-      → Left o answers₀ (k + 1) notices′ graph′ (set (set answers (answerWidth * k) (numberOf r)) (answerWidth * k + 1) (valueOf r))
+  pub turn : (o : Ran) (answers₀ : List ℕ) (k : ℕ) (areas : Areas) (answers : List ℕ) (areas′ : Areas) (r : Answer ℕ) → k < n → answerWidth * n ≤ length answers
+      → outcome r areas′ ≡ called day areas (callAt calls (callWidth * k))
+      → Left o answers₀ k areas answers
+      → Left o answers₀ (k + 1) areas′ (set (set answers (answerWidth * k) (answerNumber r)) (answerWidth * k + 1) (answerValue r))
   unfolding toldNumbers
-  turn o answers₀ k notices graph answers notices′ graph′ r h l e i =
+  turn o answers₀ k areas answers areas′ r h l e i =
       let d : answerWidth * (k + 1) ≡ answerWidth * k + answerWidth = omega arith in
-      let q = later-more k notices graph notices′ graph′ r h e in
+      let q = later-more k areas areas′ r h e in
       record {
-        notices-are = rw q at (i .notices-are);
-        graph-is = rw q at (i .graph-is);
-        answers-are = rw (d, take-pair answers (answerWidth * k) (numberOf r) (valueOf r) (omega arith), drop-pair answers (answerWidth * k) (numberOf r) (valueOf r) (answerWidth * n) (omega arith), append-assoc) (rw q at (i .answers-are));
+        areas-are = rw q at (i .areas-are);
+        answers-are = rw (d, take-pair answers (answerWidth * k) (answerNumber r) (answerValue r) (omega arith), drop-pair answers (answerWidth * k) (answerNumber r) (answerValue r) (answerWidth * n) (omega arith), append-assoc) (rw q at (i .answers-are));
       }
 
-  pub end : (o : Ran) (answers₀ : List ℕ) (k : ℕ) (notices graph answers : List ℕ) → k ≡ n → Left o answers₀ k notices graph answers → Ended o answers₀ notices graph answers
+  pub end : (o : Ran) (answers₀ : List ℕ) (k : ℕ) (areas : Areas) (answers : List ℕ) → k ≡ n → Left o answers₀ k areas answers → Ended o answers₀ areas answers
   unfolding ran callsOf toldNumbers
-  end o answers₀ k notices graph answers e i =
+  end o answers₀ k areas answers e i =
       let z : n - n ≡ 0 = omega arith in
       record {
-        notices-are = rw (e, z) at (i .notices-are);
-        graph-is = rw (e, z) at (i .graph-is);
+        areas-are = rw (e, z) at (i .areas-are);
         answers-are = sym (take-append-drop (answerWidth * n) answers) ∙ (rw (e, z) at (i .answers-are));
       }

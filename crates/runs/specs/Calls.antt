@@ -25,19 +25,19 @@ callsOf zero xs = []
 callsOf (suc k) xs = callOf (getD xs 0 0) (getD xs 1 0) (getD xs 2 0) (getD xs 3 0) ∷ callsOf k (drop callWidth xs)
 
 -- the calls that are worked: as many as both lists hold
-abbrev pub worksOf : List ℕ → List ℕ → List Call
-worksOf calls answers = callsOf (min (length calls / callWidth) (length answers / answerWidth)) calls
+abbrev pub callsWorked : List ℕ → List ℕ → List Call
+callsWorked calls answers = callsOf (min (length calls / callWidth) (length answers / answerWidth)) calls
 
 -- the two numbers of an answer
-abbrev pub numberOf : Answer ℕ → ℕ
-numberOf (accepted n) = 0
-numberOf (refused n p) = n
+abbrev pub answerNumber : Answer ℕ → ℕ
+answerNumber (accepted n) = 0
+answerNumber (refused n p) = n
 
-abbrev pub valueOf : Answer ℕ → ℕ
-valueOf (accepted n) = n
-valueOf (refused n p) = p
+abbrev pub answerValue : Answer ℕ → ℕ
+answerValue (accepted n) = n
+answerValue (refused n p) = p
 
 -- the numbers of a list of answers
 unfoldable pub toldNumbers : List (Answer ℕ) → List ℕ
 toldNumbers [] = []
-toldNumbers (a ∷ more) = numberOf a ∷ valueOf a ∷ toldNumbers more
+toldNumbers (a ∷ more) = answerNumber a ∷ answerValue a ∷ toldNumbers more

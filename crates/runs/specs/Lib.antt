@@ -1,3 +1,3 @@
 pub mod Calls
 pub mod Ended
-pub mod Worked
+pub mod Whole

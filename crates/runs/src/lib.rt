@@ -3,11 +3,12 @@ ghost use mathlib.Core.Path.{_≡_};
 ghost use Prim.Native.Nat.{min};
 ghost use Rattle.timetable.specs.Check.{toldCounts};
 ghost use Rattle.model.specs.Operations.{outcome};
-ghost use Rattle.model.specs.Runs.{worked, ran};
+ghost use Rattle.model.specs.Day.{dayOf, lent};
+ghost use Rattle.model.specs.Runs.{called, ran};
 ghost use Rattle.graph.specs.Answers.{toldNumber};
-ghost use Rattle.runs.specs.Calls.{callOf, worksOf, numberOf, valueOf};
+ghost use Rattle.runs.specs.Calls.{callOf, callsWorked, answerNumber, answerValue};
 ghost use Rattle.runs.specs.Ended.{Ended};
-ghost use Rattle.runs.specs.Worked.{Worked};
+ghost use Rattle.runs.specs.Whole.{Whole};
 use graph::Noted;
 use timetable::Checked;
 
@@ -39,7 +40,9 @@ fn work_call(
     connection: u16,
     delay: u16,
 ) -> Noted
-    ensures { λ r. ⌜ outcome (toldNumber r) (now (notices .exit)) (now (graph .exit)) ≡ worked (now (file .entry)) (now (notices .entry)) (now (graph .entry)) (callOf kind number connection delay) ⌝ }
+    ensures { λ r.
+        ⌜ outcome (toldNumber r) (lent (now (notices .exit)) (now (graph .exit)))
+        ≡ called (dayOf (now (file .entry))) (lent (now (notices .entry)) (now (graph .entry))) (callOf kind number connection delay) ⌝ }
 {
     if kind == POSTING {
         return graph::post(file, notices, graph, number, connection, delay);
@@ -49,7 +52,7 @@ fn work_call(
 
 // The first number of an answer: 0, or the refusal's number.
 fn number_of(noted: Noted) -> u16
-    ensures { λ r. ⌜ r ≡ numberOf (toldNumber noted) ⌝ }
+    ensures { λ r. ⌜ r ≡ answerNumber (toldNumber noted) ⌝ }
 {
     match noted {
         Noted::Accepted(_) => 0,
@@ -59,7 +62,7 @@ fn number_of(noted: Noted) -> u16
 
 // The second number of an answer: the notice's number, or the refusal's place.
 fn value_of(noted: Noted) -> u16
-    ensures { λ r. ⌜ r ≡ valueOf (toldNumber noted) ⌝ }
+    ensures { λ r. ⌜ r ≡ answerValue (toldNumber noted) ⌝ }
 {
     match noted {
         Noted::Accepted(number) => number,
@@ -69,7 +72,13 @@ fn value_of(noted: Noted) -> u16
 
 // The calls, one after the other; as many are worked as both slices hold.
 fn work_all(file: &[u8], notices: &mut [u16], graph: &mut [u16], calls: &[u16], answers: &mut [u16])
-    ensures { λ _. ⌜ Ended (ran (now (file .entry)) (now (notices .entry)) (now (graph .entry)) (worksOf (now (calls .entry)) (now (answers .entry)))) (now (answers .entry)) (now (notices .exit)) (now (graph .exit)) (now (answers .exit)) ⌝ }
+    ensures { λ _.
+        ⌜ Ended
+        (ran (dayOf (now (file .entry))) (lent (now (notices .entry)) (now (graph .entry)))
+        (callsWorked (now (calls .entry)) (now (answers .entry))))
+        (now (answers .entry))
+        (lent (now (notices .exit)) (now (graph .exit)))
+        (now (answers .exit)) ⌝ }
 {
     let n = lesser(calls.len() / CALL_WIDTH, answers.len() / ANSWER_WIDTH);
     let mut k = 0;
@@ -99,7 +108,12 @@ pub fn run(
     calls: &[u16],
     answers: &mut [u16],
 ) -> Checked
-    ensures { λ r. ⌜ Worked (now (file .entry)) (now (notices .entry)) (now (graph .entry)) (now (calls .entry)) (now (answers .entry)) (toldCounts r) (now (notices .exit)) (now (graph .exit)) (now (answers .exit)) ⌝ }
+    ensures { λ r.
+        ⌜ Whole (dayOf (now (file .entry))) (lent (now (notices .entry)) (now (graph .entry)))
+        (now (calls .entry)) (now (answers .entry))
+        (toldCounts r)
+        (lent (now (notices .exit)) (now (graph .exit)))
+        (now (answers .exit)) ⌝ }
 {
     let building = graph::build(file, notices, graph);
     match building {

@@ -1,4 +1,4 @@
 pub mod Signed
-pub mod Verdicts
+pub mod Asked
 pub mod Enquiries
 pub mod Margins

@@ -1,69 +1,58 @@
 -- A margin by its parts. Assumes nothing.
-use mathlib.Core.Path.{_≡_}
-use mathlib.Core.List.{List}
-use Prim.Native.Nat.{ℕ, _+_, _*_, _<_}
-use native.Mathlib.Omega.{arith}
-use lib.ListN.{length}
-use Rattle.timetable.specs.Answers.{refused, orElse, answering}
+use mathlib.Core.Path.{_≡_, refl, _∙_}
+use mathlib.Core.List.{List, []}
+use Prim.Native.Nat.{ℕ, _<_}
+use Rattle.timetable.specs.Answers.{Answer, refused, orElse, answering}
 use Rattle.timetable.specs.File.{connections, transferTime, to}
 use Rattle.timetable.specs.Room.{HasStop}
-use Rattle.timetable.specs.Accepted.{Opened}
-use Rattle.timetable.specs.Check.{fileVerdict}
+use Rattle.timetable.specs.declared.Verdict.{Verdict}
 use Rattle.timetable.specs.declared.Verdict.the-variants.{Passed, Refused}
-use Rattle.timetable.proofs.Accepted.{accepted-iff, room-for-stop}
-use Rattle.timetable.proofs.Order.{else-passed, else-assoc}
+use Rattle.timetable.proofs.Accepted.{room-for-stop}
+use lib.IntN.{ℤ}
 use Rattle.model.specs.Graph.{departureIn, arrivalIn}
 use Rattle.model.specs.Margin.{marginBetween, marginOf}
-use Rattle.model.specs.Operations.{lengthsVerdict, contentsVerdict, margined, areasVerdict}
-use Rattle.model.specs.Ready.{networkBy, Ready}
-use Rattle.model.specs.Shown.{shown}
-use Rattle.model.proofs.Ready.{ready-by}
-use Rattle.model.proofs.Shown.{readable-room, readable, margin-shown}
-use Rattle.search.specs.Verdicts.{changeVerdict}
-use Rattle.search.specs.Given.{Changing}
-use Rattle.search.proofs.Verdicts.{change-passed}
+use Rattle.model.specs.Day.{Day, Areas}
+use Rattle.model.specs.Drawn.{networkBy}
+use Rattle.model.specs.Parts.{askedVerdict, marginAsks, openVerdict}
+use Rattle.model.specs.Operations.{margined}
+use Rattle.model.specs.Shown.{shown, Readable}
+use Rattle.model.proofs.Parts.{call-open}
+use Rattle.model.proofs.Ready.{open-ready}
+use Rattle.model.proofs.Shown.{margin-shown}
+use Rattle.search.proofs.Asked.{change-passed}
 
-module _ (f notices graph : List ℕ) (c d : ℕ) where
-  -- a file that is refused
-  pub margined-refused : (n p : ℕ) → fileVerdict f ≡ Refused n p → refused n p ≡ margined f notices graph c d
+module _ (day : Day) (areas : Areas) (c d : ℕ) where
+  abbrev own : Verdict
+  own = askedVerdict [] (marginAsks (day .file) c d)
+
+  margined-is : answering (orElse (openVerdict day areas) own) (marginOf (networkBy day areas) c d) ≡ margined day areas c d
   unfolding margined
-  margined-refused n p e = rw e
+  margined-is = rw (call-open day areas (marginAsks (day .file) c d))
 
-  -- the checks after the file's
-  pub margined-parts : fileVerdict f ≡ Passed
-      → answering (orElse (areasVerdict f notices graph) (changeVerdict f c d)) (marginOf (networkBy f notices) c d) ≡ margined f notices graph c d
-  unfolding margined
-  margined-parts e = rw e (simp else-assoc)
+  -- the file or the areas are refused
+  pub margined-refused : (n p : ℕ) → openVerdict day areas ≡ Refused n p → refused n p ≡ margined day areas c d
+  margined-refused n p h = rw (← margined-is, h)
 
-  -- what is known once all checks have passed
-  module _ (s n : ℕ) (p : Opened f s n) (x : areasVerdict f notices graph ≡ Passed) (y : changeVerdict f c d ≡ Passed) where
-    ready : Ready f notices graph
-    ready =
-        let l = else-passed (lengthsVerdict f notices graph) _ .0 x in
-        ready-by f notices graph (accepted-iff f .1 (p .timetable)) (l .0) (else-passed (contentsVerdict f notices graph) Passed .0 (l .1) .0)
+  -- the minutes by what the graph area shows are those by the notices
+  shown-same : openVerdict day areas ≡ Passed → (v : Verdict) → own ≡ v
+      → answering v (marginOf (shown (day .file) (areas .graph)) c d) ≡ answering v (marginOf (networkBy day areas) c d)
+  shown-same h Passed e =
+      let k = change-passed (day .file) c d e in
+      rw (margin-shown day areas (open-ready day areas h) c d (k .0) (k .1))
+  shown-same h (Refused n p) e = refl
 
-    pub changing : Changing f graph s c d
-    changing =
-        let h = change-passed f c d y in
-        record { readable = readable f notices graph ready; stop-count = p .stops; first-below = h .0; second-below = h .1 }
+  -- neither is
+  pub margined-shown : (r : Answer ℤ) → openVerdict day areas ≡ Passed
+      → r ≡ answering (askedVerdict [] (marginAsks (day .file) c d)) (marginOf (shown (day .file) (areas .graph)) c d)
+      → r ≡ margined day areas c d
+  margined-shown r h e = rw (← margined-is, h) (e ∙ shown-same h own refl)
 
-    -- what the graph area shows is what the notices give
-    pub margin-by-notices : marginOf (shown f graph) c d ≡ marginOf (networkBy f notices) c d
-    margin-by-notices = let h = change-passed f c d y in margin-shown f notices graph ready c d (h .0) (h .1)
+-- what the readers ask
+pub room-stop : (f graph : List ℕ) → Readable f graph → (x c : ℕ) → x ≡ to f c → c < connections f → HasStop f x
+room-stop f graph r x c q h = rw q (room-for-stop f (r .timetable) (to f c) (r .timetable .to-stop c h))
 
-module _ (f graph : List ℕ) (c d s : ℕ) (p : Changing f graph s c d) where
-  -- what the readers ask
-  pub room-stop : (x e : ℕ) → x ≡ to f e → e < connections f → HasStop f x
-  room-stop x e q h = rw q (room-for-stop f (p .readable .timetable) (to f e) (p .readable .timetable .to-stop e h))
-
-  pub room-departure : 2 * d < length graph
-  room-departure = omega (arith, p .second-below, readable-room f graph (p .readable))
-
-  pub room-arrival : 2 * c + 1 < length graph
-  room-arrival = omega (arith, p .first-below, readable-room f graph (p .readable))
-
-  -- what they read is the margin
-  pub margin-read : (departure arrival stop transfer : ℕ) → departure ≡ departureIn graph d → arrival ≡ arrivalIn graph c → stop ≡ to f c
-      → transfer ≡ transferTime f stop → marginBetween departure arrival transfer ≡ marginOf (shown f graph) c d
-  unfolding marginOf
-  margin-read departure arrival stop transfer x y z w = rw (x, y, w, z)
+-- what they read is the margin
+pub margin-read : (f graph : List ℕ) (c d departure arrival stop transfer : ℕ)
+    → departure ≡ departureIn graph d → arrival ≡ arrivalIn graph c → stop ≡ to f c → transfer ≡ transferTime f stop → marginBetween departure arrival transfer ≡ marginOf (shown f graph) c d
+unfolding marginOf
+margin-read f graph c d departure arrival stop transfer x y z w = rw (x, y, w, z)

@@ -1,4 +1,3 @@
-pub mod Verdicts
-pub mod Given
+pub mod Lent
 pub mod Answered
 pub mod Margin

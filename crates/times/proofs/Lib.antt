@@ -1,4 +1,2 @@
-pub mod Turns
-pub mod Events
+pub mod Filling
 pub mod Delays
-pub mod Timed

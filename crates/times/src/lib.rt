@@ -1,20 +1,15 @@
-// What the graph is made of: expected times, from the timetable and the notices that stand, and the events and stops.
+// Expected times, from the timetable and the notices that stand.
 ghost use mathlib.Core.Path.{_≡_};
 ghost use Prim.Native.Nat.{_+_, _*_, _≤_};
 ghost use lib.ListN.{length};
 ghost use Rattle.timetable.specs.Room.{HasConnection};
-ghost use Rattle.timetable.specs.File.{scheduledDeparture, scheduledArrival};
+ghost use Rattle.timetable.specs.File.{connections, scheduledDeparture, scheduledArrival};
+ghost use Rattle.model.specs.Day.{dayOf};
 ghost use Rattle.model.specs.Graph.{times};
 ghost use Rattle.timetable.specs.Accepted.{Opened};
-ghost use Rattle.times.specs.Times.{Delays, Standing, Timed, EventsRoom, SameLengths, Events, networkIn, departsAt, longestTime};
-ghost use Rattle.model.specs.Times.{travelTime};
-ghost use Rattle.model.specs.Ready.{networkBy};
-
-// How many connections a timetable has at most: `maxConnections`.
-const MAX_CONNECTIONS: usize = 2000;
-
-// The numbers of one notice's row: `width`.
-const WIDTH: usize = 3;
+ghost use Rattle.times.specs.Times.{Delays, networkIn, TimesAt, longestTime};
+ghost use Rattle.model.specs.Times.{networkOf};
+ghost use Rattle.model.specs.Notices.{rowsOf, Standing};
 
 // When a connection departs and arrives.
 pub struct Times {
@@ -26,7 +21,7 @@ pub struct Times {
 fn times_at(file: &[u8], stops: usize, c: usize, delay: u16, before: u16) -> Times
     requires { ⌜ HasConnection (now file) stops c × (scheduledDeparture (now file) c ≤ scheduledArrival (now file) c) ⌝ }
     requires { ⌜ (before ≤ longestTime) × (delay ≤ longestTime) × (scheduledArrival (now file) c ≤ longestTime) ⌝ }
-    ensures { λ r. ⌜ (r .departure ≡ departsAt (now (file .entry)) c delay before) × (r .arrival ≡ r .departure + travelTime (now (file .entry)) c) ⌝ }
+    ensures { λ r. ⌜ TimesAt (now (file .entry)) c delay before (r .departure) (r .arrival) ⌝ }
 {
     let scheduled = timetable::scheduled_departure(file, stops, c);
     let travel = timetable::scheduled_arrival(file, stops, c) - scheduled;
@@ -63,38 +58,11 @@ pub fn fill_times(file: &[u8], stops: usize, n: usize, delays: &[u16], area: &mu
 
 // The expected times of each connection with the notices that stand.
 pub fn expected_times(file: &[u8], stops: usize, n: usize, notices: &[u16], area: &mut [u16])
-    requires { ⌜ Opened (now file) stops n × Standing (now file) (now notices) × (length (now area) ≡ 2 * n) ⌝ }
-    ensures { λ _. ⌜ now (area .exit) ≡ times (networkBy (now (file .entry)) (now (notices .entry))) n ⌝ }
+    requires { ⌜ Opened (now file) stops n × Standing (connections (now file)) (now notices) × (length (now area) ≡ 2 * n) ⌝ }
+    ensures { λ _. ⌜ now (area .exit) ≡ times (networkOf (dayOf (now (file .entry))) (rowsOf (now (notices .entry)))) n ⌝ }
 {
-    let mut delays = [0u16; MAX_CONNECTIONS];
-    let end = 1 + WIDTH * (notices[0] as usize);
-    notices::primary_delays(&notices[1..end], &mut delays[0..n]);
+    let mut delays = [0u16; timetable::MAX_CONNECTIONS];
+    let end = 1 + model::WIDTH * (notices[0] as usize);
+    delays::primary_delays(&notices[1..end], &mut delays[0..n]);
     fill_times(file, stops, n, &delays, area);
-}
-
-// For each of the n connections: when a passenger who arrives by it is ready to leave again, then its departure, to
-// `events`; its stops to `from` and `to`.
-pub fn fill_events(
-    file: &[u8],
-    stops: usize,
-    n: usize,
-    times: &[u16],
-    events: &mut [u16],
-    from: &mut [u16],
-    to: &mut [u16],
-)
-    requires { ⌜ Opened (now file) stops n × Timed (now times) n × EventsRoom n (now events) (now from) (now to) ⌝ }
-    ensures { λ _. ⌜ Events (now (file .entry)) (now (times .entry)) n (now (events .exit)) (now (from .exit)) (now (to .exit)) × SameLengths (now (events .exit)) (now (from .exit)) (now (to .exit)) (now (events .entry)) (now (from .entry)) (now (to .entry)) ⌝ }
-{
-    let mut c = 0;
-    while c < n {
-        let start = timetable::from(file, stops, c);
-        let end = timetable::to(file, stops, c);
-        let transfer = timetable::transfer_time(file, end as usize);
-        events[c] = times[2 * c + 1] + transfer;
-        events[n + c] = times[2 * c];
-        from[c] = start;
-        to[c] = end;
-        c += 1;
-    }
 }

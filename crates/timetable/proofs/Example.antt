@@ -1,4 +1,5 @@
--- The check of small files, computed: files that are accepted, and some for each refusal. Assumes nothing.
+-- The check of small files, computed: files that are accepted, and some for each refusal, with the numbers of document 01
+-- written out. Assumes nothing.
 use mathlib.Core.Path.{_≡_, refl}
 use mathlib.Core.List.{List, [], _∷_, _++_, map}
 use Prim.Native.Nat.{ℕ}

@@ -5,7 +5,7 @@ use mathlib.Core.Bool.{Bool, true, false}
 use Prim.Native.Nat.{ℕ, zero, suc, _+_, _<_, _≤_}
 use native.Mathlib.Numerals.{add-one}
 use native.Mathlib.Omega.{arith}
-use Rattle.timetable.specs.Answers.{refuseIf, orElse, firstBelow}
+use Rattle.timetable.specs.Answers.{refuseIf, isPassed, orElse, firstBelow}
 use Rattle.timetable.specs.declared.Verdict.{Verdict}
 use Rattle.timetable.specs.declared.Verdict.the-variants.{Passed, Refused}
 use Rattle.timetable.proofs.Tests.{Faults, not-both, by-lt}
@@ -13,6 +13,11 @@ use Rattle.timetable.proofs.Tests.{Faults, not-both, by-lt}
 -- no verdict is both
 pub passed-not-refused : {m p : ℕ} {v : Verdict} → v ≡ Passed → v ≡ Refused m p → ⊥
 passed-not-refused {m} {p} {v} h k = let z : _≡_ {A = ℕ} 0 1 = cc in omega arith
+
+-- the test of a verdict
+pub passed-true : (v : Verdict) → isPassed v ≡ true → v ≡ Passed
+passed-true Passed h = refl
+passed-true (Refused m p) h = absurd (not-both h refl)
 
 -- with nothing after it
 pub or-passed : (v : Verdict) → orElse v Passed ≡ v
@@ -92,6 +97,9 @@ module _ (v : ℕ → Verdict) where
   pub passed-all : (k n : ℕ) → firstBelow v k ≡ Passed → k ≤ n → n ≤ k → firstBelow v n ≡ Passed
   passed-all k n h l g = let e : k ≡ n = omega arith in rw e at h
 
+  pub passed-fewer : (k n : ℕ) → firstBelow v k ≡ Passed → n ≤ k → firstBelow v n ≡ Passed
+  passed-fewer k n h l = below-passed n .1 (λ j i. below-passed k .0 h j (omega arith))
+
   -- a refusal once found stays
   pub refusal-stays : (k n m p : ℕ) → firstBelow v k ≡ Refused m p → k ≤ n → firstBelow v n ≡ Refused m p
   unfolding firstBelow
@@ -106,6 +114,14 @@ module _ (v : ℕ → Verdict) where
   pub first-refuses : (k n m p : ℕ) → k < n → v k ≡ Refused m p → firstBelow v k ≡ Passed → firstBelow v n ≡ Refused m p
   unfolding firstBelow
   first-refuses k n m p l r h = refusal-stays (suc k) n m p (else-refused (firstBelow v k) (v k) m p .1 (inr (h, r))) l
+
+  -- where the first k pass and v k does not, no longer part passes
+  pub fails-below : (k n : ℕ) → k < n → isPassed (v k) ≡ false → firstBelow v k ≡ Passed → isPassed (firstBelow v n) ≡ false
+  fails-below k n l e h = by-verdict (v k) refl e
+    where
+      by-verdict : (w : Verdict) → v k ≡ w → isPassed w ≡ false → isPassed (firstBelow v n) ≡ false
+      by-verdict Passed r i = absurd (not-both refl i)
+      by-verdict (Refused m p) r i = rw (first-refuses k n m p l r h)
 
   -- one: some k refuses so, and all before it pass
   pub below-refused : (n m p : ℕ)

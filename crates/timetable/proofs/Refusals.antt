@@ -6,6 +6,7 @@ use Prim.Native.Nat.{ℕ}
 use native.Mathlib.Omega.{arith}
 use Rattle.timetable.specs.Answers.{firstBelow}
 use Rattle.timetable.specs.File.{stops, connections}
+use Rattle.timetable.specs.RefusalNumber as refusal
 use Rattle.timetable.specs.Check.{headerVerdict, stopVerdict, connectionVerdict, fileVerdict}
 use Rattle.timetable.specs.Refusals.{Past1, Past2, Past3, Past4, Past5, Past6, Past7, Reaches, FileRefusal, no-header, wrong-mark, wrong-version, wrong-stop-count, wrong-connection-count, wrong-length, wrong-transfer, wrong-stops, wrong-trip, wrong-times, wrong-join}
 use Rattle.timetable.specs.declared.Verdict.the-variants.{Passed, Refused}
@@ -95,7 +96,7 @@ module _ (f : List ℕ) where
   is-refusal (wrong-transfer s h l b w) =
       at-stop
       (header-passes f h)
-      (first-refuses (stopVerdict f) s (stops f) 7 s l (rule7 f s .finds (λ g. omega arith)) (below-passed (stopVerdict f) s .1 (λ k i. rule7 f k .holds (b k i))))
+      (first-refuses (stopVerdict f) s (stops f) refusal.wrongTransferTime s l (rule7 f s .finds (λ g. omega arith)) (below-passed (stopVerdict f) s .1 (λ k i. rule7 f k .holds (b k i))))
   is-refusal (wrong-stops c r w) = at-connection c r (stop _ (rule8 f c) w)
   is-refusal (wrong-trip c r a w) = at-connection c r (pass (rule8 f c) a (stop _ (rule9 f c) w))
   is-refusal (wrong-times c r a b w) = at-connection c r (pass (rule8 f c) a (pass (rule9 f c) b (stop _ (rule10 f c) w)))

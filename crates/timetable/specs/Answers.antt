@@ -15,6 +15,11 @@ abbrev pub refuseIf : Bool → ℕ → ℕ → Verdict
 refuseIf true n p = Refused n p
 refuseIf false n p = Passed
 
+-- whether a verdict passes
+abbrev pub isPassed : Verdict → Bool
+isPassed Passed = true
+isPassed (Refused n p) = false
+
 -- the first verdict, or the second where the first passes
 abbrev pub orElse : Verdict → Verdict → Verdict
 orElse Passed v = v

@@ -4,8 +4,9 @@ use mathlib.Core.List.{List, [], _∷_}
 use Prim.Native.Nat.{ℕ, zero, suc}
 use lib.Dec.{ltb, leb, eqb}
 use lib.ListN.{length}
-use Rattle.timetable.specs.Answers.{Answer, accepted, refused, refuseIf, firstRefusal, firstBelow, answering}
+use Rattle.timetable.specs.Answers.{Answer, accepted, refused, refuseIf, orElse, firstRefusal, firstBelow, answering}
 use Rattle.timetable.specs.File.{headerLength, fileLength, marked, version, stops, connections, transferTime, trip, from, to, scheduledDeparture, scheduledArrival, staysAboard}
+use Rattle.timetable.specs.RefusalNumber as refusal
 use Rattle.timetable.specs.declared.Verdict.{Verdict}
 use Rattle.timetable.specs.declared.Checked.{Checked}
 use Rattle.timetable.specs.declared.Checked.the-variants as C
@@ -30,17 +31,17 @@ lastScheduled = 4319
 unfoldable pub headerVerdict : List ℕ → Verdict
 headerVerdict f =
     firstRefusal
-    (refuseIf (ltb (length f) headerLength) 1 0 ∷
-    refuseIf (not (marked f)) 2 0 ∷
-    refuseIf (not (eqb (version f) formatVersion)) 3 0 ∷
-    refuseIf (not (leb 1 (stops f) && leb (stops f) maxStops)) 4 0 ∷
-    refuseIf (ltb maxConnections (connections f)) 5 0 ∷
-    refuseIf (not (eqb (length f) (fileLength (stops f) (connections f)))) 6 0 ∷
+    (refuseIf (ltb (length f) headerLength) refusal.shortFile 0 ∷
+    refuseIf (not (marked f)) refusal.wrongMark 0 ∷
+    refuseIf (not (eqb (version f) formatVersion)) refusal.wrongVersion 0 ∷
+    refuseIf (not (leb 1 (stops f) && leb (stops f) maxStops)) refusal.wrongStopCount 0 ∷
+    refuseIf (ltb maxConnections (connections f)) refusal.wrongConnectionCount 0 ∷
+    refuseIf (not (eqb (length f) (fileLength (stops f) (connections f)))) refusal.wrongLength 0 ∷
     [])
 
 -- refusal 7, at the stop
 unfoldable pub stopVerdict : List ℕ → ℕ → Verdict
-stopVerdict f s = refuseIf (ltb maxTransferTime (transferTime f s)) 7 s
+stopVerdict f s = refuseIf (ltb maxTransferTime (transferTime f s)) refusal.wrongTransferTime s
 
 -- 8: from and to differ and are stops
 unfoldable pub wrongStops : List ℕ → ℕ → Bool
@@ -55,30 +56,32 @@ wrongTrip f (suc c) = not (eqb (trip f (suc c)) (trip f c) || eqb (trip f (suc c
 unfoldable pub wrongTimes : List ℕ → ℕ → Bool
 wrongTimes f c = leb (scheduledArrival f c) (scheduledDeparture f c) || ltb lastScheduled (scheduledArrival f c)
 
+-- connection c starts elsewhere or earlier than connection b arrives
+abbrev pub breaksOff : List ℕ → ℕ → ℕ → Bool
+breaksOff f b c = not (eqb (from f c) (to f b)) || ltb (scheduledDeparture f c) (scheduledArrival f b)
+
 -- 11: within a trip, a connection starts where and not before the one before it arrives
 unfoldable pub wrongJoin : List ℕ → ℕ → Bool
 wrongJoin f zero = false
-wrongJoin f (suc c) =
-    staysAboard f (suc c) && (not (eqb (from f (suc c)) (to f c)) || ltb (scheduledDeparture f (suc c)) (scheduledArrival f c))
+wrongJoin f (suc c) = staysAboard f (suc c) && breaksOff f c (suc c)
 
 -- refusals 8 to 11, at the connection
 unfoldable pub connectionVerdict : List ℕ → ℕ → Verdict
 connectionVerdict f c =
     firstRefusal
-    (refuseIf (wrongStops f c) 8 c ∷
-    refuseIf (wrongTrip f c) 9 c ∷
-    refuseIf (wrongTimes f c) 10 c ∷
-    refuseIf (wrongJoin f c) 11 c ∷
+    (refuseIf (wrongStops f c) refusal.wrongStops c ∷
+    refuseIf (wrongTrip f c) refusal.wrongTrip c ∷
+    refuseIf (wrongTimes f c) refusal.wrongTimes c ∷
+    refuseIf (wrongJoin f c) refusal.wrongJoin c ∷
     [])
 
--- refusals 1 to 11: the header, stop by stop, connection by connection
+-- refusals 7 to 11: stop by stop, connection by connection
+abbrev pub bodyVerdict : List ℕ → Verdict
+bodyVerdict f = firstRefusal (firstBelow (stopVerdict f) (stops f) ∷ firstBelow (connectionVerdict f) (connections f) ∷ [])
+
+-- refusals 1 to 11
 unfoldable pub fileVerdict : List ℕ → Verdict
-fileVerdict f =
-    firstRefusal
-    (headerVerdict f ∷
-    firstBelow (stopVerdict f) (stops f) ∷
-    firstBelow (connectionVerdict f) (connections f) ∷
-    [])
+fileVerdict f = orElse (headerVerdict f) (bodyVerdict f)
 
 -- the counts of a timetable
 pub record Counts : Type 0 where

@@ -1,6 +1,8 @@
 pub mod Answers
+pub mod RefusalNumber
 pub mod File
 pub mod Check
 pub mod Room
+pub mod Next
 pub mod Accepted
 pub mod Refusals

@@ -7,6 +7,7 @@ use Prim.Native.Nat.{ℕ, zero, suc, _<_, _≤_}
 use lib.ListN.{length}
 use Rattle.timetable.specs.File.{headerLength, fileLength, marked, stops, connections, transferTime, trip, from, to, scheduledDeparture, scheduledArrival, staysAboard}
 use Rattle.timetable.specs.File as file
+use Rattle.timetable.specs.RefusalNumber as refusal
 use Rattle.timetable.specs.Check.{formatVersion, maxStops, maxConnections, maxTransferTime, lastScheduled}
 
 -- Past1 f to Past6 f: refusals 1 to so many do not hold
@@ -87,14 +88,15 @@ pub record Reaches (f : List ℕ) (c : ℕ) : Type 0 where
 
 -- the refusal of a file: its number and place
 pub data FileRefusal (f : List ℕ) : ℕ → ℕ → Type 0 where
-  no-header : length f < headerLength → FileRefusal f 1 0
-  wrong-mark : Past1 f → (marked f ≡ true → ⊥) → FileRefusal f 2 0
-  wrong-version : Past2 f → (file.version f ≡ formatVersion → ⊥) → FileRefusal f 3 0
-  wrong-stop-count : Past3 f → (StopCount f → ⊥) → FileRefusal f 4 0
-  wrong-connection-count : Past4 f → maxConnections < connections f → FileRefusal f 5 0
-  wrong-length : Past5 f → (length f ≡ fileLength (stops f) (connections f) → ⊥) → FileRefusal f 6 0
-  wrong-transfer : (s : ℕ) → Past6 f → s < stops f → ((b : ℕ) → b < s → StopPasses f b) → maxTransferTime < transferTime f s → FileRefusal f 7 s
-  wrong-stops : (c : ℕ) → Reaches f c → (GoodStops f c → ⊥) → FileRefusal f 8 c
-  wrong-trip : (c : ℕ) → Reaches f c → GoodStops f c → (GoodTrip f c → ⊥) → FileRefusal f 9 c
-  wrong-times : (c : ℕ) → Reaches f c → GoodStops f c → GoodTrip f c → (GoodTimes f c → ⊥) → FileRefusal f 10 c
-  wrong-join : (c : ℕ) → Reaches f c → GoodStops f c → GoodTrip f c → GoodTimes f c → (GoodJoin f c → ⊥) → FileRefusal f 11 c
+  no-header : length f < headerLength → FileRefusal f refusal.shortFile 0
+  wrong-mark : Past1 f → (marked f ≡ true → ⊥) → FileRefusal f refusal.wrongMark 0
+  wrong-version : Past2 f → (file.version f ≡ formatVersion → ⊥) → FileRefusal f refusal.wrongVersion 0
+  wrong-stop-count : Past3 f → (StopCount f → ⊥) → FileRefusal f refusal.wrongStopCount 0
+  wrong-connection-count : Past4 f → maxConnections < connections f → FileRefusal f refusal.wrongConnectionCount 0
+  wrong-length : Past5 f → (length f ≡ fileLength (stops f) (connections f) → ⊥) → FileRefusal f refusal.wrongLength 0
+  wrong-transfer : (s : ℕ) → Past6 f → s < stops f → ((b : ℕ) → b < s → StopPasses f b) → maxTransferTime < transferTime f s
+      → FileRefusal f refusal.wrongTransferTime s
+  wrong-stops : (c : ℕ) → Reaches f c → (GoodStops f c → ⊥) → FileRefusal f refusal.wrongStops c
+  wrong-trip : (c : ℕ) → Reaches f c → GoodStops f c → (GoodTrip f c → ⊥) → FileRefusal f refusal.wrongTrip c
+  wrong-times : (c : ℕ) → Reaches f c → GoodStops f c → GoodTrip f c → (GoodTimes f c → ⊥) → FileRefusal f refusal.wrongTimes c
+  wrong-join : (c : ℕ) → Reaches f c → GoodStops f c → GoodTrip f c → GoodTimes f c → (GoodJoin f c → ⊥) → FileRefusal f refusal.wrongJoin c

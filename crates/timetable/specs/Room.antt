@@ -10,6 +10,11 @@ use Rattle.timetable.specs.Check.{maxConnections}
 abbrev pub HasStop : List ℕ → ℕ → Type 0
 HasStop f s = headerLength + 2 * s + 1 < length f
 
+-- the file has s stops and holds the k-th number of connection c
+pub record HasField (f : List ℕ) (s c k : ℕ) : Type 0 where
+  pub count : s ≡ stops f
+  pub room : placeAfter s c + 2 * k + 1 < length f
+
 -- the file has s stops and holds connection c
 pub record HasConnection (f : List ℕ) (s c : ℕ) : Type 0 where
   pub count : s ≡ stops f

@@ -2,14 +2,35 @@
 ghost use mathlib.Core.Path.{_≡_};
 ghost use Prim.Native.Nat.{_+_, _*_, _-_, _<_, _≤_};
 ghost use mathlib.Core.Bool.{not, _||_};
-ghost use mathlib.Core.List.{[], _∷_};
-ghost use lib.Dec.{ltb, eqb};
 ghost use lib.ListN.{length};
-ghost use Rattle.timetable.specs.Answers.{firstRefusal, firstBelow};
-ghost use Rattle.timetable.specs.File.{headerLength, marked, stops, connections, transferTime, trip, from, to, scheduledDeparture, scheduledArrival, staysAboard};
-ghost use Rattle.timetable.specs.Room.{HasStop, HasConnection, HasConnections};
+ghost use Rattle.timetable.specs.Answers.{isPassed, firstBelow};
+ghost use Rattle.timetable.specs.File.{headerLength, marked, stops, connections, transferTime, field, trip, from, to, scheduledDeparture, scheduledArrival, staysAboard};
+ghost use Rattle.timetable.specs.Room.{HasStop, HasField, HasConnection, HasConnections};
+ghost use Rattle.timetable.specs.Next.{HasNext, maskIf};
 ghost use Rattle.timetable.specs.Refusals.{Past6};
-ghost use Rattle.timetable.specs.Check.{maxStops, maxConnections, headerVerdict, stopVerdict, wrongStops, wrongTrip, wrongTimes, wrongJoin, connectionVerdict, fileVerdict, checkedAnswer, toldCounts};
+ghost use Rattle.timetable.specs.declared.Verdict.the-variants.{Passed};
+ghost use Rattle.timetable.specs.Check.{maxStops, maxConnections, headerVerdict, stopVerdict, wrongStops, wrongTrip, wrongTimes, breaksOff, wrongJoin, connectionVerdict, bodyVerdict, fileVerdict, checkedAnswer, toldCounts};
+
+pub mod refusal;
+
+// The length of the header, and of one connection: `headerLength` and `connectionLength`.
+pub const HEADER_LENGTH: usize = 9;
+
+pub const CONNECTION_LENGTH: usize = 10;
+
+// The version of the format: `formatVersion`.
+pub const FORMAT_VERSION: u16 = 1;
+
+// How many stops and connections a timetable has at most: `maxStops` and `maxConnections`.
+pub const MAX_STOPS: usize = 500;
+
+pub const MAX_CONNECTIONS: usize = 2000;
+
+// The longest minimum transfer time: `maxTransferTime`.
+pub const MAX_TRANSFER_TIME: u16 = 60;
+
+// The last minute at which a connection may arrive by the timetable: `lastScheduled`.
+pub const LAST_SCHEDULED: u16 = 4319;
 
 // Whether a call goes on, or the refusal's number and place.
 pub enum Verdict {
@@ -44,7 +65,18 @@ pub fn transfer_time(file: &[u8], s: usize) -> u16
     requires { ⌜ HasStop (now file) s ⌝ }
     ensures { λ r. ⌜ r ≡ transferTime (now (file .entry)) s ⌝ }
 {
-    numbers::number_at(file, 9 + 2 * s)
+    numbers::number_at(file, HEADER_LENGTH + 2 * s)
+}
+
+// The k-th of the five numbers of connection c.
+fn field(file: &[u8], stops: usize, c: usize, k: usize) -> u16
+    requires { ⌜ HasField (now file) stops c k ⌝ }
+    ensures { λ r. ⌜ r ≡ field k (now (file .entry)) c ⌝ }
+{
+    numbers::number_at(
+        file,
+        HEADER_LENGTH + 2 * stops + CONNECTION_LENGTH * c + 2 * k,
+    )
 }
 
 // The trip of connection c.
@@ -52,7 +84,7 @@ pub fn trip(file: &[u8], stops: usize, c: usize) -> u16
     requires { ⌜ HasConnection (now file) stops c ⌝ }
     ensures { λ r. ⌜ r ≡ trip (now (file .entry)) c ⌝ }
 {
-    numbers::number_at(file, 9 + 2 * stops + 10 * c)
+    field(file, stops, c, 0)
 }
 
 // The stop that connection c starts from.
@@ -60,7 +92,7 @@ pub fn from(file: &[u8], stops: usize, c: usize) -> u16
     requires { ⌜ HasConnection (now file) stops c ⌝ }
     ensures { λ r. ⌜ r ≡ from (now (file .entry)) c ⌝ }
 {
-    numbers::number_at(file, 9 + 2 * stops + 10 * c + 2)
+    field(file, stops, c, 1)
 }
 
 // The stop that connection c goes to.
@@ -68,7 +100,7 @@ pub fn to(file: &[u8], stops: usize, c: usize) -> u16
     requires { ⌜ HasConnection (now file) stops c ⌝ }
     ensures { λ r. ⌜ r ≡ to (now (file .entry)) c ⌝ }
 {
-    numbers::number_at(file, 9 + 2 * stops + 10 * c + 4)
+    field(file, stops, c, 2)
 }
 
 // When connection c departs by the timetable.
@@ -76,7 +108,7 @@ pub fn scheduled_departure(file: &[u8], stops: usize, c: usize) -> u16
     requires { ⌜ HasConnection (now file) stops c ⌝ }
     ensures { λ r. ⌜ r ≡ scheduledDeparture (now (file .entry)) c ⌝ }
 {
-    numbers::number_at(file, 9 + 2 * stops + 10 * c + 6)
+    field(file, stops, c, 3)
 }
 
 // When connection c arrives by the timetable.
@@ -84,7 +116,7 @@ pub fn scheduled_arrival(file: &[u8], stops: usize, c: usize) -> u16
     requires { ⌜ HasConnection (now file) stops c ⌝ }
     ensures { λ r. ⌜ r ≡ scheduledArrival (now (file .entry)) c ⌝ }
 {
-    numbers::number_at(file, 9 + 2 * stops + 10 * c + 8)
+    field(file, stops, c, 4)
 }
 
 // Whether connection c has the trip of the one before it.
@@ -103,9 +135,9 @@ fn is_marked(file: &[u8]) -> bool
     requires { ⌜ headerLength ≤ length (now file) ⌝ }
     ensures { λ r. ⌜ r ≡ marked (now (file .entry)) ⌝ }
 {
-    if file[0] == 84 {
-        if file[1] == 84 {
-            return file[2] == 71;
+    if file[0] == b'T' {
+        if file[1] == b'T' {
+            return file[2] == b'G';
         }
     }
     false
@@ -115,28 +147,28 @@ fn is_marked(file: &[u8]) -> bool
 fn header_verdict(file: &[u8]) -> Verdict
     ensures { λ r. ⌜ r ≡ headerVerdict (now (file .entry)) ⌝ }
 {
-    if file.len() < 9 {
-        return Verdict::Refused(1, 0);
+    if file.len() < HEADER_LENGTH {
+        return Verdict::Refused(refusal::SHORT_FILE, 0);
     }
     if !is_marked(file) {
-        return Verdict::Refused(2, 0);
+        return Verdict::Refused(refusal::WRONG_MARK, 0);
     }
-    if numbers::number_at(file, 3) != 1 {
-        return Verdict::Refused(3, 0);
+    if numbers::number_at(file, 3) != FORMAT_VERSION {
+        return Verdict::Refused(refusal::WRONG_VERSION, 0);
     }
     let s = stops(file) as usize;
     if s < 1 {
-        return Verdict::Refused(4, 0);
+        return Verdict::Refused(refusal::WRONG_STOP_COUNT, 0);
     }
-    if 500 < s {
-        return Verdict::Refused(4, 0);
+    if MAX_STOPS < s {
+        return Verdict::Refused(refusal::WRONG_STOP_COUNT, 0);
     }
     let n = connections(file) as usize;
-    if 2000 < n {
-        return Verdict::Refused(5, 0);
+    if MAX_CONNECTIONS < n {
+        return Verdict::Refused(refusal::WRONG_CONNECTION_COUNT, 0);
     }
-    if file.len() != 9 + 2 * s + 10 * n {
-        return Verdict::Refused(6, 0);
+    if file.len() != HEADER_LENGTH + 2 * s + CONNECTION_LENGTH * n {
+        return Verdict::Refused(refusal::WRONG_LENGTH, 0);
     }
     Verdict::Passed
 }
@@ -148,8 +180,8 @@ fn stops_verdict(file: &[u8], n: usize) -> Verdict
 {
     let mut s = 0;
     while s < n {
-        if 60 < transfer_time(file, s) {
-            return Verdict::Refused(7, s as u16);
+        if MAX_TRANSFER_TIME < transfer_time(file, s) {
+            return Verdict::Refused(refusal::WRONG_TRANSFER_TIME, s as u16);
         }
         s += 1;
     }
@@ -198,13 +230,13 @@ fn wrong_times(file: &[u8], stops: usize, c: usize) -> bool
     if arrival <= departure {
         return true;
     }
-    4319 < arrival
+    LAST_SCHEDULED < arrival
 }
 
 // Whether connection c starts elsewhere or earlier than the one before it arrives.
 fn breaks_off(file: &[u8], stops: usize, c: usize) -> bool
     requires { ⌜ HasConnection (now file) stops c × (0 < c) ⌝ }
-    ensures { λ r. ⌜ r ≡ (not (eqb (from (now (file .entry)) c) (to (now (file .entry)) (c - 1))) || ltb (scheduledDeparture (now (file .entry)) c) (scheduledArrival (now (file .entry)) (c - 1))) ⌝ }
+    ensures { λ r. ⌜ r ≡ breaksOff (now (file .entry)) (c - 1) c ⌝ }
 {
     if from(file, stops, c) != to(file, stops, c - 1) {
         return true;
@@ -229,22 +261,94 @@ fn connection_verdict(file: &[u8], stops: usize, c: usize) -> Verdict
     ensures { λ r. ⌜ r ≡ connectionVerdict (now (file .entry)) c ⌝ }
 {
     if wrong_stops(file, stops, c) {
-        return Verdict::Refused(8, c as u16);
+        return Verdict::Refused(refusal::WRONG_STOPS, c as u16);
     }
     if wrong_trip(file, stops, c) {
-        return Verdict::Refused(9, c as u16);
+        return Verdict::Refused(refusal::WRONG_TRIP, c as u16);
     }
     if wrong_times(file, stops, c) {
-        return Verdict::Refused(10, c as u16);
+        return Verdict::Refused(refusal::WRONG_TIMES, c as u16);
     }
     if wrong_join(file, stops, c) {
-        return Verdict::Refused(11, c as u16);
+        return Verdict::Refused(refusal::WRONG_JOIN, c as u16);
     }
     Verdict::Passed
 }
 
-// Refusals 8 to 11 at the first n connections.
-fn connections_verdict(file: &[u8], stops: usize, n: usize) -> Verdict
+// Whether 11 does not hold at connection c, which is not the first. The mask has all bits where c stays aboard, else none,
+// so that no branch depends on that.
+fn joins(file: &[u8], stops: usize, c: usize, mask: u16) -> bool
+    requires { ⌜ HasNext (now file) stops c × (mask ≡ maskIf (staysAboard (now file) c)) ⌝ }
+    ensures { λ r. ⌜ r ≡ not (wrongJoin (now (file .entry)) c) ⌝ }
+{
+    let apart = std::num::wrapping_sub_u16(from(file, stops, c), to(file, stops, c - 1));
+    if apart & mask != 0 {
+        return false;
+    }
+    scheduled_arrival(file, stops, c - 1) & mask <= scheduled_departure(file, stops, c)
+}
+
+// Whether 9 and 11 do not hold at connection c, which is not the first.
+fn follows(file: &[u8], stops: usize, c: usize) -> bool
+    requires { ⌜ HasNext (now file) stops c ⌝ }
+    ensures { λ r. ⌜ r ≡ not (wrongTrip (now (file .entry)) c || wrongJoin (now (file .entry)) c) ⌝ }
+{
+    let step = std::num::wrapping_sub_u16(trip(file, stops, c), trip(file, stops, c - 1));
+    if 1 < step {
+        return false;
+    }
+    joins(file, stops, c, std::num::wrapping_sub_u16(step, 1))
+}
+
+// Whether connection c, which is not the first, passes.
+fn connection_passes(file: &[u8], stops: usize, c: usize) -> bool
+    requires { ⌜ HasNext (now file) stops c ⌝ }
+    ensures { λ r. ⌜ r ≡ isPassed (connectionVerdict (now (file .entry)) c) ⌝ }
+{
+    if wrong_stops(file, stops, c) {
+        return false;
+    }
+    if wrong_times(file, stops, c) {
+        return false;
+    }
+    follows(file, stops, c)
+}
+
+// Whether the first n connections pass, where connection 0 does.
+fn later_pass(file: &[u8], stops: usize, n: usize) -> bool
+    requires { ⌜ HasConnections (now file) stops n × (connectionVerdict (now file) 0 ≡ Passed) ⌝ }
+    ensures { λ r. ⌜ r ≡ isPassed (firstBelow (connectionVerdict (now (file .entry))) n) ⌝ }
+{
+    let mut c = 1;
+    while c < n {
+        if !connection_passes(file, stops, c) {
+            return false;
+        }
+        c += 1;
+    }
+    true
+}
+
+// Whether the first n connections pass.
+fn connections_pass(file: &[u8], stops: usize, n: usize) -> bool
+    requires { ⌜ HasConnections (now file) stops n ⌝ }
+    ensures { λ r. ⌜ r ≡ isPassed (firstBelow (connectionVerdict (now (file .entry))) n) ⌝ }
+{
+    if n == 0 {
+        return true;
+    }
+    let first = connection_verdict(file, stops, 0);
+    match first {
+        Verdict::Refused(_, _) => {
+            return false;
+        }
+        Verdict::Passed => {}
+    }
+    later_pass(file, stops, n)
+}
+
+// Refusals 8 to 11 at the first n connections, one after the other.
+fn find_refusal(file: &[u8], stops: usize, n: usize) -> Verdict
     requires { ⌜ HasConnections (now file) stops n ⌝ }
     ensures { λ r. ⌜ r ≡ firstBelow (connectionVerdict (now (file .entry))) n ⌝ }
 {
@@ -262,10 +366,21 @@ fn connections_verdict(file: &[u8], stops: usize, n: usize) -> Verdict
     Verdict::Passed
 }
 
+// Refusals 8 to 11 at the first n connections. The place is looked for only where not all pass.
+fn connections_verdict(file: &[u8], stops: usize, n: usize) -> Verdict
+    requires { ⌜ HasConnections (now file) stops n ⌝ }
+    ensures { λ r. ⌜ r ≡ firstBelow (connectionVerdict (now (file .entry))) n ⌝ }
+{
+    if connections_pass(file, stops, n) {
+        return Verdict::Passed;
+    }
+    find_refusal(file, stops, n)
+}
+
 // Refusals 7 to 11 of a file whose header passes.
 fn body_verdict(file: &[u8]) -> Verdict
     requires { ⌜ Past6 (now file) ⌝ }
-    ensures { λ r. ⌜ r ≡ firstRefusal (firstBelow (stopVerdict (now (file .entry))) (stops (now (file .entry))) ∷ firstBelow (connectionVerdict (now (file .entry))) (connections (now (file .entry))) ∷ []) ⌝ }
+    ensures { λ r. ⌜ r ≡ bodyVerdict (now (file .entry)) ⌝ }
 {
     let s = stops(file) as usize;
     let verdict = stops_verdict(file, s);

@@ -38,6 +38,21 @@ pub static PLAIN: Side = Side {
     margin: plain::margin,
 };
 
+impl Side {
+    /// Makes a call with a file and four areas: notices, graph, work and journey.
+    #[inline]
+    pub fn call(&self, file: &[u8], [n, g, w, j]: [Mut; 4], call: Call) -> i64 {
+        match call {
+            Call::Check => (self.check)(file) as i64,
+            Call::Build => (self.build)(file, n, g) as i64,
+            Call::Post(a, b, c) => (self.post)(file, n, g, a, b, c) as i64,
+            Call::Withdraw(a) => (self.withdraw)(file, n, g, a) as i64,
+            Call::Enquire(a, b, c) => (self.enquire)(file, n, g, w, j, a, b, c) as i64,
+            Call::Margin(a, b) => (self.margin)(file, n, g, a, b),
+        }
+    }
+}
+
 #[derive(Clone, Copy, Debug)]
 pub enum Call {
     Check,
@@ -118,19 +133,13 @@ pub struct State {
 
 impl State {
     pub fn apply(&mut self, side: &Side, call: Call) -> i64 {
-        let file = self.file.area();
-        let (n, g) = (&mut self.notices, &mut self.graph);
-        match call {
-            Call::Check => (side.check)(file) as i64,
-            Call::Build => (side.build)(file, n.area_mut(), g.area_mut()) as i64,
-            Call::Post(a, b, c) => (side.post)(file, n.area_mut(), g.area_mut(), a, b, c) as i64,
-            Call::Withdraw(a) => (side.withdraw)(file, n.area_mut(), g.area_mut(), a) as i64,
-            Call::Enquire(a, b, c) => {
-                let (w, j) = (self.work.area_mut(), self.journey.area_mut());
-                (side.enquire)(file, n.area(), g.area(), w, j, a, b, c) as i64
-            }
-            Call::Margin(a, b) => (side.margin)(file, n.area(), g.area(), a, b),
-        }
+        let areas = [
+            &mut self.notices,
+            &mut self.graph,
+            &mut self.work,
+            &mut self.journey,
+        ];
+        side.call(self.file.area(), areas.map(Room::area_mut), call)
     }
 
     /// Name and first differing byte of the first room that differs.

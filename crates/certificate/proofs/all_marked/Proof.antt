@@ -7,7 +7,7 @@ use native.Mathlib.Omega.{arith}
 use borrow.Author.Needs.{needs}
 use lib.ListN.{length, getD}
 use Rattle.model.specs.Least.{none}
-use Rattle.certificate.specs.Links.{Tells}
+use Rattle.certificate.specs.Telling.{Tells}
 use Rattle.certificate.proofs.Telling.{tells-yes, tells-fails, tells-on}
 use Rattle.certificate.proofs.all_marked.Statement.{statement}
 use Rattle.certificate.proofs.all_marked.Tie as tie

@@ -11,11 +11,11 @@ use Rattle.certificate.proofs.changes_right.Statement.{statement}
 use Rattle.certificate.proofs.changes_right.Tie as tie
 
 abbrev Inv-loop : tie.InvT-loop
-Inv-loop file stops n graph marks ends c₀ c =
-    (c ≤ n) × ((k : ℕ) → k < c → ChangeLink (shown file graph) graph marks ends k)
+Inv-loop file stops n graph marks lasts c₀ c =
+    (c ≤ n) × ((k : ℕ) → k < c → ChangeLink (shown file graph) graph marks lasts k)
 
 abbrev μ-loop : tie.MeasureT-loop
-μ-loop file stops n graph marks ends c₀ c = n - c
+μ-loop file stops n graph marks lasts c₀ c = n - c
 
 loop-holds : tie.Need-loop-holds Inv-loop μ-loop
 loop-holds c = (omega arith, λ k l. absurd (omega arith))
@@ -23,7 +23,7 @@ loop-holds c = (omega arith, λ k l. absurd (omega arith))
 change-right-requires : tie.Need-change-right-requires Inv-loop μ-loop
 change-right-requires c κs =
     let p = c .before .before .before .before .before .before .pre in
-    (p .0, c .loop-test .taken, p .1, p .2)
+    (p .0, c .loop-test .taken, p .1)
 
 returns : tie.Need-returns Inv-loop μ-loop
 returns c =

@@ -1,4 +1,4 @@
--- `certificate::link_firsts` meets its contract. The loop's invariant: the links of the stops below s are right, and
+-- `certificate::link_firsts` meets its contract. The loop's invariant: the links of the boards below b are right, and
 -- marked. Assumes nothing.
 use mathlib.Core.Path.{_≡_}
 use Prim.Native.Nat.{ℕ, _-_, _<_, _≤_}
@@ -8,16 +8,17 @@ use borrow.Author.Needs.{needs}
 use borrow.Author.Count.{below-more}
 use borrow.Author.Tests.{not-false}
 use Rattle.model.specs.Shown.{shown}
-use Rattle.certificate.specs.Links.{FirstLink, Marks}
+use Rattle.certificate.specs.Links.{FirstLink}
+use Rattle.certificate.specs.Telling.{FirstsLinked}
 use Rattle.certificate.proofs.Telling.{told, denied, told-yes, told-no}
 use Rattle.certificate.proofs.link_firsts.Statement.{statement}
 use Rattle.certificate.proofs.link_firsts.Tie as tie
 
 abbrev Inv-loop : tie.InvT-loop
-Inv-loop file stops n graph marks₀ s₀ marks s = (s ≤ stops) × ((k : ℕ) → k < s → FirstLink (shown file graph) graph k) × Marks (shown file graph) graph s 0 marks
+Inv-loop file stops n graph marks₀ b₀ marks b = (b ≤ stops) × ((k : ℕ) → k < b → FirstLink (shown file graph) graph k) × FirstsLinked file graph b marks
 
 abbrev μ-loop : tie.MeasureT-loop
-μ-loop file stops n graph marks₀ s₀ marks s = stops - s
+μ-loop file stops n graph marks₀ b₀ marks b = stops - b
 
 loop-holds : tie.Need-loop-holds Inv-loop μ-loop
 loop-holds c =
@@ -38,10 +39,10 @@ returns c =
     let t = c .before .before .before in
     let l = t .before .before in
     let a = l .before in
-    denied (λ all. told-no (t .link-first .ensures .0) (c .if1 .taken) (all (a .loop .s) (l .loop-test .taken)))
+    denied (λ all. told-no (t .link-first .ensures .tells) (c .if1 .taken) (all (a .loop .b) (l .loop-test .taken)))
 
-add-s : tie.Need-add-s Inv-loop μ-loop
-add-s c = search needs
+add-b : tie.Need-add-b Inv-loop μ-loop
+add-b c = search needs
 
 loop-less : tie.Need-loop-less Inv-loop μ-loop
 loop-less c = search needs
@@ -51,7 +52,7 @@ loop-again c =
     let t = c .before .before .before in
     let l = t .before .before in
     let a = l .before in
-    (omega arith, below-more _ _ (a .loop .inv .1) (told-yes (t .link-first .ensures .0) (c .if1 .left)), rw (add-one (a .loop .s)) (t .link-first .ensures .1 (not-false _ (c .if1 .left))))
+    (omega arith, below-more _ _ (a .loop .inv .1) (told-yes (t .link-first .ensures .tells) (c .if1 .left)), rw (add-one (a .loop .b)) (t .link-first .ensures .leaves (not-false _ (c .if1 .left))))
 
 same-length-2 : tie.Need-same-length-2 Inv-loop μ-loop
 same-length-2 c = search needs
@@ -60,7 +61,7 @@ returns-2 : tie.Need-returns-2 Inv-loop μ-loop
 returns-2 c =
     let a = c .before in
     let s = a .before .before .before .before in
-    let e : a .loop .s ≡ s .args .stops = omega (arith, c .loop-test .left, a .loop .inv .0) in
+    let e : a .loop .b ≡ s .args .stops = omega (arith, c .loop-test .left, a .loop .inv .0) in
     rw (← e) (told (a .loop .inv .1) (a .loop .inv .2))
 
 pub link-firsts-spec : {M : Type 1} → statement M
@@ -73,7 +74,7 @@ link-firsts-spec =
     link-first-requires
     same-length
     returns
-    add-s
+    add-b
     loop-less
     loop-again
     same-length-2

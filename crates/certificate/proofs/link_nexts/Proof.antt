@@ -8,27 +8,29 @@ use borrow.Author.Needs.{needs}
 use borrow.Author.Count.{below-more}
 use borrow.Author.Tests.{not-false}
 use Rattle.model.specs.Shown.{shown}
-use Rattle.certificate.specs.Links.{NextLink, Marks, Ends}
+use Rattle.certificate.specs.Links.{NextLink}
+use Rattle.certificate.specs.Telling.{NextsLinked}
 use Rattle.certificate.proofs.Telling.{told, denied, told-yes, told-no}
 use Rattle.certificate.proofs.link_nexts.Statement.{statement}
 use Rattle.certificate.proofs.link_nexts.Tie as tie
 
 abbrev Inv-loop : tie.InvT-loop
-Inv-loop file stops n graph marks₀ ends₀ c₀ marks ends c = (c ≤ n) × ((k : ℕ) → k < c → NextLink (shown file graph) graph k) × Marks (shown file graph) graph stops c marks × Ends (shown file graph) graph c ends
+Inv-loop file stops n graph marks₀ lasts₀ c₀ marks lasts c =
+    (c ≤ n) × ((k : ℕ) → k < c → NextLink (shown file graph) graph k) × NextsLinked file graph stops c marks lasts
 
 abbrev μ-loop : tie.MeasureT-loop
-μ-loop file stops n graph marks₀ ends₀ c₀ marks ends c = n - c
+μ-loop file stops n graph marks₀ lasts₀ c₀ marks lasts c = n - c
 
 loop-holds : tie.Need-loop-holds Inv-loop μ-loop
 loop-holds c =
     let p = c .before .before .before .before .pre in
-    (omega arith, λ k h. absurd (omega arith), p .1, p .2)
+    (omega arith, λ k h. absurd (omega arith), p .1)
 
 link-next-requires : tie.Need-link-next-requires Inv-loop μ-loop
 link-next-requires c κs =
     let l = c .before .before in
     let a = l .before in
-    (a .before .before .before .before .before .pre .0, l .loop-test .taken, a .loop .inv .2, a .loop .inv .3)
+    (a .before .before .before .before .before .pre .0, l .loop-test .taken, a .loop .inv .2)
 
 same-length : tie.Need-same-length Inv-loop μ-loop
 same-length c = search needs
@@ -41,7 +43,7 @@ returns c =
     let t = c .before .before .before .before .before in
     let l = t .before .before .before in
     let a = l .before in
-    denied (λ all. told-no (t .link-next .ensures .0) (c .if1 .taken) (all (a .loop .c) (l .loop-test .taken)))
+    denied (λ all. told-no (t .link-next .ensures .tells) (c .if1 .taken) (all (a .loop .c) (l .loop-test .taken)))
 
 add-c : tie.Need-add-c Inv-loop μ-loop
 add-c c = search needs
@@ -54,7 +56,7 @@ loop-again c =
     let t = c .before .before .before .before .before in
     let l = t .before .before .before in
     let a = l .before in
-    (omega arith, below-more _ _ (a .loop .inv .1) (told-yes (t .link-next .ensures .0) (c .if1 .left)), rw (add-one (a .loop .c)) (t .link-next .ensures .1 (not-false _ (c .if1 .left)) .0), rw (add-one (a .loop .c)) (t .link-next .ensures .1 (not-false _ (c .if1 .left)) .1))
+    (omega arith, below-more _ _ (a .loop .inv .1) (told-yes (t .link-next .ensures .tells) (c .if1 .left)), rw (add-one (a .loop .c)) (t .link-next .ensures .leaves (not-false _ (c .if1 .left))))
 
 same-length-3 : tie.Need-same-length-3 Inv-loop μ-loop
 same-length-3 c = search needs
@@ -67,7 +69,7 @@ returns-2 c =
     let a = c .before in
     let s = a .before .before .before .before .before in
     let e : a .loop .c ≡ s .args .n = omega (arith, c .loop-test .left, a .loop .inv .0) in
-    rw (← e) (told (a .loop .inv .1) (a .loop .inv .2, a .loop .inv .3))
+    rw (← e) (told (a .loop .inv .1) (a .loop .inv .2))
 
 pub link-nexts-spec : {M : Type 1} → statement M
 link-nexts-spec =

@@ -25,13 +25,13 @@ same-length c = search needs
 returns : tie.Need-returns
 returns c =
     let k = c .before .before .before in
-    tells-no (λ r. told-no (k .link-firsts .ensures .0) (c .if1 .taken) (firsts-pass (start k .pre .0) r))
+    tells-no (λ r. told-no (k .link-firsts .ensures .tells) (c .if1 .taken) (firsts-pass (start k .pre .0) r))
 
 link-nexts-requires : tie.Need-link-nexts-requires
 link-nexts-requires c κs =
     let k = c .before .before .before .before .before in
     let p = start k .pre in
-    (p .0, k .link-firsts .ensures .1 (not-false _ (c .before .before .if1 .left)), p .2)
+    (p .0, record { marks = k .link-firsts .ensures .leaves (not-false _ (c .before .before .if1 .left)); lasts = p .1 .lasts })
 
 same-length-2 : tie.Need-same-length-2
 same-length-2 c = search needs
@@ -42,7 +42,7 @@ same-length-3 c = search needs
 returns-2 : tie.Need-returns-2
 returns-2 c =
     let m = c .before .before .before .before .before in
-    tells-no (λ r. told-no (m .link-nexts .ensures .0) (c .if2 .taken) (nexts-pass (start (firsts m) .pre .0) r))
+    tells-no (λ r. told-no (m .link-nexts .ensures .tells) (c .if2 .taken) (nexts-pass (start (firsts m) .pre .0) r))
 
 all-marked-requires : tie.Need-all-marked-requires
 all-marked-requires c κs = search needs
@@ -57,15 +57,15 @@ returns-3 : tie.Need-returns-3
 returns-3 c =
     let e = c .before .before .before in
     let m = nexts e in
-    let linked = m .link-nexts .ensures .1 (not-false _ (e .if2 .left)) in
-    tells-no (λ r. told-no (c .before .all-marked .ensures) (c .if3 .taken) (marks-pass (start (firsts m) .pre .0) (linked .0) r))
+    let linked = m .link-nexts .ensures .leaves (not-false _ (e .if2 .left)) in
+    tells-no (λ r. told-no (c .before .all-marked .ensures) (c .if3 .taken) (marks-pass (start (firsts m) .pre .0) linked r))
 
 changes-right-requires : tie.Need-changes-right-requires
 changes-right-requires c κs =
     let e = c .before .before .before .before .before in
     let m = nexts e in
-    let linked = m .link-nexts .ensures .1 (not-false _ (e .if2 .left)) in
-    (start (firsts m) .pre .0, linked .0, linked .1)
+    let linked = m .link-nexts .ensures .leaves (not-false _ (e .if2 .left)) in
+    (start (firsts m) .pre .0, linked)
 
 same-length-6 : tie.Need-same-length-6
 same-length-6 c = search needs
@@ -80,11 +80,11 @@ returns-4 c =
     let m = nexts e in
     let k = firsts m in
     let l = start k .pre .0 in
-    let linked = m .link-nexts .ensures .1 (not-false _ (e .if2 .left)) in
+    let linked = m .link-nexts .ensures .leaves (not-false _ (e .if2 .left)) in
     let full = told-yes (o .before .all-marked .ensures) (o .if3 .left) in
     tells-as (c .changes-right .ensures)
-    (passed-right l (linked .0) full (linked .1) (told-yes (k .link-firsts .ensures .0) (m .before .before .before .if1 .left)) (told-yes (m .link-nexts .ensures .0) (e .if2 .left)))
-    (changes-pass l (linked .0) full (linked .1))
+    (passed-right l linked full (told-yes (k .link-firsts .ensures .tells) (m .before .before .before .if1 .left)) (told-yes (m .link-nexts .ensures .tells) (e .if2 .left)))
+    (changes-pass l linked full)
 
 pub links-right-spec : {M : Type 1} → statement M
 links-right-spec =

@@ -1,5 +1,5 @@
 -- `certificate::lists_right` meets its contract: its arrays have room for the marks. Assumes nothing.
-use Rattle.certificate.proofs.Whole.{marks-start, ends-start}
+use Rattle.certificate.proofs.Whole.{links-start}
 use borrow.Author.Needs.{needs}
 use Rattle.certificate.proofs.lists_right.Statement.{statement}
 use Rattle.certificate.proofs.lists_right.Tie as tie
@@ -16,16 +16,16 @@ part-marks-end c = search needs
 sub-links-right-2 : tie.Need-sub-links-right-2
 sub-links-right-2 c = search needs
 
-part-ends-start : tie.Need-part-ends-start
-part-ends-start c = search needs
+part-lasts-start : tie.Need-part-lasts-start
+part-lasts-start c = search needs
 
-part-ends-end : tie.Need-part-ends-end
-part-ends-end c = search needs
+part-lasts-end : tie.Need-part-lasts-end
+part-lasts-end c = search needs
 
 links-right-requires : tie.Need-links-right-requires
 links-right-requires c κs =
     let l = c .before .before .before .before .pre in
-    (l, marks-start l, ends-start l)
+    (l, links-start l)
 
 returns : tie.Need-returns
 returns c = search needs
@@ -38,7 +38,7 @@ lists-right-spec =
     part-marks-start
     part-marks-end
     sub-links-right-2
-    part-ends-start
-    part-ends-end
+    part-lasts-start
+    part-lasts-end
     links-right-requires
     returns)

@@ -4,29 +4,24 @@ use borrow.Author.Tests.{eq-eqb, ne-eqb, le-leb, lt-leb}
 use lib.ListN.{length}
 use Rattle.model.specs.Notices.{room, leastDelay, mostPosted, rowsOf}
 use Rattle.model.proofs.Areas.{count-rows}
-use Rattle.checks.specs.Verdicts.{postingVerdict}
 use borrow.Author.Needs.{needs}
 use Rattle.checks.proofs.posting_verdict.Statement.{statement}
 use Rattle.checks.proofs.posting_verdict.Tie as tie
 
 returns : tie.Need-returns
-unfolding postingVerdict
 returns c = rw (eq-eqb (c .before .before .args .number) 0 (c .if1 .taken))
 
 returns-2 : tie.Need-returns-2
-unfolding postingVerdict
 returns-2 c =
     let a = c .before .before .before .args in
     rw (ne-eqb (a .number) 0 (c .before .if1 .left), le-leb (a .n) (a .connection) (omega arith))
 
 returns-3 : tie.Need-returns-3
-unfolding postingVerdict
 returns-3 c =
     let a = c .before .before .before .before .args in
     rw (ne-eqb (a .number) 0 (c .before .before .if1 .left), lt-leb (a .n) (a .connection) (omega arith), lt-leb leastDelay (a .delay) (omega arith))
 
 returns-4 : tie.Need-returns-4
-unfolding postingVerdict
 returns-4 c =
     let a = c .before .before .before .before .before .args in
     rw (ne-eqb (a .number) 0 (c .before .before .before .if1 .left), lt-leb (a .n) (a .connection) (omega arith), le-leb leastDelay (a .delay) (omega arith), lt-leb (a .delay) mostPosted (omega arith))
@@ -35,7 +30,6 @@ is-standing-requires : tie.Need-is-standing-requires
 is-standing-requires c κs = search needs
 
 returns-5 : tie.Need-returns-5
-unfolding postingVerdict
 returns-5 c =
     let a = c .before .before .before .before .before .before .before .args in
     rw (ne-eqb (a .number) 0 (c .before .before .before .before .before .if1 .left), lt-leb (a .n) (a .connection) (omega arith), le-leb leastDelay (a .delay) (omega arith), le-leb (a .delay) mostPosted (omega arith), ← (c .before .is-standing .ensures), c .if5 .taken)
@@ -44,13 +38,11 @@ shared-slice-read-if6 : tie.Need-shared-slice-read-if6
 shared-slice-read-if6 c = search needs
 
 returns-6 : tie.Need-returns-6
-unfolding postingVerdict
 returns-6 c =
     let a = c .before .before .before .before .before .before .before .before .before .args in
     rw (ne-eqb (a .number) 0 (c .before .before .before .before .before .before .before .if1 .left), lt-leb (a .n) (a .connection) (omega arith), le-leb leastDelay (a .delay) (omega arith), le-leb (a .delay) mostPosted (omega arith), ← (c .before .before .before .is-standing .ensures), c .before .before .if5 .left, le-leb room (length (rowsOf (a .notices .now))) (omega (arith, count-rows (a .notices .now))))
 
 returns-7 : tie.Need-returns-7
-unfolding postingVerdict
 returns-7 c =
     let a = c .before .before .before .before .before .before .before .before .before .args in
     rw (ne-eqb (a .number) 0 (c .before .before .before .before .before .before .before .if1 .left), lt-leb (a .n) (a .connection) (omega arith), le-leb leastDelay (a .delay) (omega arith), le-leb (a .delay) mostPosted (omega arith), ← (c .before .before .before .is-standing .ensures), c .before .before .if5 .left, lt-leb room (length (rowsOf (a .notices .now))) (omega (arith, count-rows (a .notices .now))))

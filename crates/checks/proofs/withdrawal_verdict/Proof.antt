@@ -1,23 +1,19 @@
 -- `checks::withdrawal_verdict` meets its contract. Assumes nothing.
 use borrow.Author.Tests.{eq-eqb, ne-eqb}
-use Rattle.checks.specs.Verdicts.{withdrawalVerdict}
 use borrow.Author.Needs.{needs}
 use Rattle.checks.proofs.withdrawal_verdict.Statement.{statement}
 use Rattle.checks.proofs.withdrawal_verdict.Tie as tie
 
 returns : tie.Need-returns
-unfolding withdrawalVerdict
 returns c = rw (eq-eqb (c .before .before .args .number) 0 (c .if1 .taken))
 
 is-standing-requires : tie.Need-is-standing-requires
 is-standing-requires c κs = search needs
 
 returns-2 : tie.Need-returns-2
-unfolding withdrawalVerdict
 returns-2 c = rw (ne-eqb (c .before .before .before .before .args .number) 0 (c .before .before .if1 .left), ← (c .before .is-standing .ensures), c .if2 .taken)
 
 returns-3 : tie.Need-returns-3
-unfolding withdrawalVerdict
 returns-3 c = rw (ne-eqb (c .before .before .before .before .args .number) 0 (c .before .before .if1 .left), ← (c .before .is-standing .ensures), c .if2 .left)
 
 pub withdrawal-verdict-spec : {M : Type 1} → statement M

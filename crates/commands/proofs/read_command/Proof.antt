@@ -1,57 +1,48 @@
--- `commands::read_command` meets its contract: a refusal each for length, newline and second byte, then the numbers.
--- Assumes nothing.
-use mathlib.Core.Path.{sym, _∙_, ap}
+-- `commands::read_command` meets its contract: the length and the newline first, then the words. Assumes nothing.
+use mathlib.Core.Path.{sym}
+use mathlib.Core.Bool.{and-false}
+use native.Mathlib.Nat.{sub-zero}
 use native.Mathlib.Omega.{arith}
 use borrow.Author.Needs.{needs}
-use Rattle.commands.specs.Commands.{asked}
-use Rattle.commands.proofs.Words.{command-short, command-long, command-open, command-wide, command-letter}
+use borrow.Author.Tests.{eq-eqb, ne-eqb, le-leb, lt-leb}
+use lib.ListN.{length}
+use Rattle.commands.specs.Commands.{maxLine, commandOf}
+use Rattle.commands.proofs.Words.{command-none}
 use Rattle.commands.proofs.read_command.Statement.{statement}
 use Rattle.commands.proofs.read_command.Tie as tie
 
 returns : tie.Need-returns
-returns c = sym (command-short (c .before .before .args .line .now) (c .if1 .taken))
+returns c = sym (command-none (c .before .before .args .line .now) (c .if1 .taken))
 
 returns-2 : tie.Need-returns-2
-returns-2 c = sym (command-long (c .before .before .before .args .line .now) (c .if2 .taken))
-
-sub-end : tie.Need-sub-end
-sub-end c = search needs
+unfolding commandOf
+returns-2 c = rw (lt-leb (length (c .before .before .before .args .line .now)) maxLine (c .if2 .taken))
 
 shared-slice-read-if3 : tie.Need-shared-slice-read-if3
 shared-slice-read-if3 c = search needs
 
 returns-3 : tie.Need-returns-3
-returns-3 c = sym (command-open (c .before .before .before .before .before .args .line .now) (c .if3 .taken))
+unfolding commandOf
+returns-3 c = rw (ne-eqb _ _ (c .if3 .taken), and-false)
 
-shared-slice-read-if4 : tie.Need-shared-slice-read-if4
-shared-slice-read-if4 c = search needs
+sub-read-words : tie.Need-sub-read-words
+sub-read-words c = search needs
+
+part-read-words-start : tie.Need-part-read-words-start
+part-read-words-start c = search needs
+
+part-read-words-end : tie.Need-part-read-words-end
+part-read-words-end c = search needs
+
+read-words-requires : tie.Need-read-words-requires
+read-words-requires c κs = search needs
 
 returns-4 : tie.Need-returns-4
-returns-4 c = sym (command-wide (c .before .before .before .before .before .before .before .args .line .now) (omega arith) (omega arith) (c .before .before .if3 .left) (c .if4 .taken))
-
-shared-slice-read-letter : tie.Need-shared-slice-read-letter
-shared-slice-read-letter c = search needs
-
-sub-read-numbers : tie.Need-sub-read-numbers
-sub-read-numbers c = search needs
-
-part-read-numbers-start : tie.Need-part-read-numbers-start
-part-read-numbers-start c = search needs
-
-part-read-numbers-end : tie.Need-part-read-numbers-end
-part-read-numbers-end c = search needs
-
-read-numbers-requires : tie.Need-read-numbers-requires
-read-numbers-requires c κs = search needs
-
-by-letter-requires : tie.Need-by-letter-requires
-by-letter-requires c κs = search needs
-
-returns-5 : tie.Need-returns-5
-returns-5 c =
-    let b = c .before .before .before .before .before .before .before .before .before .before .before in
-    let l = command-letter (b .args .line .now) (omega arith) (omega arith) (c .before .before .before .before .before .before .if3 .left) (c .before .before .before .before .if4 .left) in
-    c .by-letter .ensures ∙ ap (asked _) (c .before .read-numbers .ensures) ∙ sym l
+unfolding commandOf
+returns-4 c =
+    let e = c .before .before in
+    let line = e .before .before .before .before .before .args .line .now in
+    rw (le-leb (length line) maxLine (omega arith), eq-eqb _ _ (e .if3 .left)) (rw sub-zero at (c .read-words .ensures))
 
 pub read-command-spec : {M : Type 1} → statement M
 read-command-spec =
@@ -59,15 +50,10 @@ read-command-spec =
     (tie.spec
     returns
     returns-2
-    sub-end
     shared-slice-read-if3
     returns-3
-    shared-slice-read-if4
-    returns-4
-    shared-slice-read-letter
-    sub-read-numbers
-    part-read-numbers-start
-    part-read-numbers-end
-    read-numbers-requires
-    by-letter-requires
-    returns-5)
+    sub-read-words
+    part-read-words-start
+    part-read-words-end
+    read-words-requires
+    returns-4)

@@ -1,83 +1,84 @@
--- `commands::read_numbers` meets its contract: the first word is a number, and the rest is read after it. Assumes nothing.
+-- `commands::read_numbers` meets its contract: the numbers so far, with those of the words from a space on, are all the
+-- numbers. Assumes nothing.
+use mathlib.Core.Path.{_≡_, refl, sym, _∙_}
+use mathlib.Core.List.{map, foldl}
+use Prim.Native.Nat.{_-_, _≤_}
+use native.Mathlib.Omega.{arith}
 use borrow.Author.Needs.{needs}
-use Rattle.commands.specs.Commands.{numbersOf}
-use Rattle.commands.proofs.Words.{numbers-first, numbers-one, numbers-more, first-within}
+use lib.ListN.{length, drop, drop-of-length-le}
+use Rattle.decimals.specs.Decimal.{decimal}
+use Rattle.commands.specs.Words.{spacedWords}
+use Rattle.commands.specs.Commands.{withNumber, gathered}
+use Rattle.commands.proofs.Words.{next-within, next-word}
 use Rattle.commands.proofs.read_numbers.Statement.{statement}
 use Rattle.commands.proofs.read_numbers.Tie as tie
 
-word-length-requires : tie.Need-word-length-requires
-word-length-requires c κs = search needs
+abbrev Inv-loop : tie.InvT-loop
+Inv-loop text numbers₀ at₀ numbers at =
+    (at ≤ length text) × (gathered (map decimal (spacedWords text)) ≡ foldl withNumber numbers (map decimal (spacedWords (drop at text))))
 
-sub-read-number : tie.Need-sub-read-number
+abbrev μ-loop : tie.MeasureT-loop
+μ-loop text numbers₀ at₀ numbers at = length text - at
+
+loop-holds : tie.Need-loop-holds Inv-loop μ-loop
+loop-holds c = (omega arith, refl)
+
+add-start : tie.Need-add-start Inv-loop μ-loop
+add-start c = search needs
+
+word-end-requires : tie.Need-word-end-requires Inv-loop μ-loop
+word-end-requires c κs = search needs
+
+sub-read-number : tie.Need-sub-read-number Inv-loop μ-loop
 sub-read-number c = search needs
 
-part-read-number-start : tie.Need-part-read-number-start
+part-read-number-start : tie.Need-part-read-number-start Inv-loop μ-loop
 part-read-number-start c = search needs
 
-part-read-number-end : tie.Need-part-read-number-end
-part-read-number-end c = first-within (c .before .before .args .text .now) (c .word-length .result) (c .word-length .ensures)
+part-read-number-end : tie.Need-part-read-number-end Inv-loop μ-loop
+part-read-number-end c =
+    let l = c .before .before in
+    next-within (l .before .before .args .text .now) (l .loop .at) (c .word-end .result) (omega arith) (c .word-end .ensures)
 
-read-number-requires : tie.Need-read-number-requires
+read-number-requires : tie.Need-read-number-requires Inv-loop μ-loop
 read-number-requires c κs = search needs
 
-enum-known-number : tie.Need-enum-known-number
-enum-known-number c = search needs
+with-number-requires : tie.Need-with-number-requires Inv-loop μ-loop
+with-number-requires c κs = search needs
 
-enum-told : tie.Need-enum-told
-enum-told c = search needs
+loop-less : tie.Need-loop-less Inv-loop μ-loop
+loop-less c = search needs
 
-returns : tie.Need-returns
-unfolding numbersOf
+loop-again : tie.Need-loop-again Inv-loop μ-loop
+loop-again c =
+    let w = c .before .before .before in
+    let l = w .before .before in
+    let t = l .before .before .args .text .now in
+    let e = next-word t (l .loop .at) (w .word-end .result) (omega arith) (w .word-end .ensures) in (
+      next-within t (l .loop .at) (w .word-end .result) (omega arith) (w .word-end .ensures),
+      l .loop .inv .1 ∙ rw (e, c .with-number .ensures, c .before .read-number .ensures),
+    )
+
+returns : tie.Need-returns Inv-loop μ-loop
+unfolding spacedWords
 returns c =
-    let n = c .before .before in
-    let w = n .before .before in
-    rw (numbers-first (w .before .before .args .text .now) (w .word-length .result) (w .word-length .ensures), ← n .read-number .ensures, c .enum-told .given .1)
-
-add-after-one : tie.Need-add-after-one
-add-after-one c = search needs
-
-sub-after-one : tie.Need-sub-after-one
-sub-after-one c = search needs
-
-part-after-one-start : tie.Need-part-after-one-start
-part-after-one-start c = search needs
-
-part-after-one-end : tie.Need-part-after-one-end
-part-after-one-end c = search needs
-
-after-one-requires : tie.Need-after-one-requires
-after-one-requires c κs = search needs
-
-returns-2 : tie.Need-returns-2
-returns-2 c =
-    let i = c .before .before in
-    let n = i .before .before .before .before in
-    let w = n .before .before in
-    rw (numbers-more (w .before .before .args .text .now) (w .word-length .result) (w .word-length .ensures) (i .if1 .taken), ← n .read-number .ensures, i .before .before .number .given .1) (c .after-one .ensures)
-
-returns-3 : tie.Need-returns-3
-unfolding numbersOf
-returns-3 c =
-    let n = c .before .before .before .before in
-    let w = n .before .before in
-    rw (numbers-one (w .before .before .args .text .now) (w .word-length .result) (w .word-length .ensures) (c .if1 .left), ← n .read-number .ensures, c .before .before .number .given .1)
+    let l = c .before in
+    sym (l .loop .inv .1 ∙ rw (drop-of-length-le (l .before .before .args .text .now) {i = l .loop .at} (omega arith)))
 
 pub read-numbers-spec : {M : Type 1} → statement M
 read-numbers-spec =
     tie.close
     (tie.spec
-    word-length-requires
+    Inv-loop
+    μ-loop
+    loop-holds
+    add-start
+    word-end-requires
     sub-read-number
     part-read-number-start
     part-read-number-end
     read-number-requires
-    enum-known-number
-    enum-told
-    returns
-    add-after-one
-    sub-after-one
-    part-after-one-start
-    part-after-one-end
-    after-one-requires
-    returns-2
-    returns-3)
+    with-number-requires
+    loop-less
+    loop-again
+    returns)

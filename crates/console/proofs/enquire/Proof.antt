@@ -1,8 +1,7 @@
 -- `console::enquire` meets its contract: the journey and its line fit their areas. Assumes nothing.
-use mathlib.Core.Path.{ap}
 use native.Mathlib.Omega.{arith}
 use borrow.Author.Needs.{needs}
-use lib.ListN.{length, length-take, length-append}
+use lib.ListN.{length-take}
 use Rattle.console.proofs.Fitting.{answer-fits}
 use Rattle.console.proofs.enquire.Statement.{statement}
 use Rattle.console.proofs.enquire.Tie as tie
@@ -24,7 +23,8 @@ part-write-arrival-start c = search needs
 
 part-write-arrival-end : tie.Need-part-write-arrival-end
 part-write-arrival-end c =
-    omega (arith, answer-fits (c .before .before .before .before .before .before .before .before .enquire .ensures) (c .before .before .enquired .given .1))
+    let e = c .before .before .before .before .before .before .before .before .enquire in
+    omega (arith, answer-fits (e .ensures) (c .before .before .enquired .given .1))
 
 write-arrival-requires : tie.Need-write-arrival-requires
 write-arrival-requires c κs = simp length-take (omega arith)
@@ -45,7 +45,7 @@ same-length-3 : tie.Need-same-length-3
 same-length-3 c = search needs
 
 returns : tie.Need-returns
-returns c = omega (arith, simp length-append at (ap length (c .before .before .write-arrival .ensures .1)))
+returns c = c .before .before .write-arrival .ensures .within
 
 same-length-4 : tie.Need-same-length-4
 same-length-4 c = search needs

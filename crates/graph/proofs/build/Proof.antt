@@ -1,13 +1,21 @@
 -- `graph::build` meets its contract. Assumes nothing.
 use mathlib.Core.Path.{_≡_, sym, _∙_}
 use Rattle.timetable.specs.declared.Verdict.the-variants.{Passed}
-use Rattle.model.specs.Operations.{lengthsVerdict}
+use Rattle.model.specs.Day.{Day, Areas, dayOf, lent}
+use Rattle.model.specs.Parts.{roomVerdict}
 use Rattle.timetable.specs.Accepted.{Opened}
 use Rattle.timetable.proofs.Answered.{opened-by, refused-by}
-use Rattle.graph.proofs.Outcomes.{built-file, built-lengths, built-done}
+use Rattle.timetable.proofs.Accepted.{accepted-iff}
+use Rattle.model.proofs.Operations.{built-refused, built-done}
 use borrow.Author.Needs.{needs}
 use Rattle.graph.proofs.build.Statement.{statement}
 use Rattle.graph.proofs.build.Tie as tie
+
+abbrev day : tie.Start → Day
+day s = dayOf (s .args .file .now)
+
+abbrev areas : tie.Start → Areas
+areas s = lent (s .args .notices .now) (s .args .graph .now)
 
 -- where the file is accepted: the function's entry, and the counts, which are those of a timetable
 abbrev entry : tie.After-known-told → tie.Start
@@ -18,8 +26,8 @@ opened c =
     let k = c .before .before .before .check in opened-by (entry c .args .file .now) (k .result) (k .ensures) _ _ (c .before .checked .given .1)
 
 -- where 21 and 22 have passed
-long-enough : (c : tie.After-enum-told2) → let s = entry (c .before .before .before .before .before) in lengthsVerdict (s .args .file .now) (s .args .notices .now) (s .args .graph .now) ≡ Passed
-long-enough c = sym (c .before .before .lengths-verdict .ensures) ∙ c .enum-told2 .given .1
+long-enough : (c : tie.After-enum-told2) → let s = entry (c .before .before .before .before .before) in roomVerdict (day s) (areas s) ≡ Passed
+long-enough c = sym (c .before .before .room-verdict .ensures) ∙ c .enum-told2 .given .1
 
 check-requires : tie.Need-check-requires
 check-requires c κs = search needs
@@ -35,10 +43,10 @@ returns c =
     let k = c .before .before .check in
     let s = c .before .before .before .before .before .before in
     let e = c .enum-told .given .1 in
-    rw e (built-file (s .args .file .now) (s .args .notices .now) (s .args .graph .now) _ _ (refused-by (s .args .file .now) (k .result) (k .ensures) _ _ e))
+    rw e (built-refused (day s) (areas s) _ _ (rw (refused-by (s .args .file .now) (k .result) (k .ensures) _ _ e)))
 
-lengths-verdict-requires : tie.Need-lengths-verdict-requires
-lengths-verdict-requires c κs = opened (c .before .before) .timetable
+room-verdict-requires : tie.Need-room-verdict-requires
+room-verdict-requires c κs = opened (c .before .before) .timetable
 
 enum-known-verdict : tie.Need-enum-known-verdict
 enum-known-verdict c = search needs
@@ -53,7 +61,7 @@ returns-2 : tie.Need-returns-2
 returns-2 c =
     let k = c .before .before .before .before .before .before in
     let s = entry k in
-    built-lengths (s .args .file .now) (s .args .notices .now) (s .args .graph .now) _ _ (opened k .timetable) (sym (c .before .before .before .lengths-verdict .ensures) ∙ c .before .verdict .given .1)
+    built-refused (day s) (areas s) _ _ (rw (accepted-iff (s .args .file .now) .1 (opened k .timetable)) (sym (c .before .before .before .room-verdict .ensures) ∙ c .before .verdict .given .1))
 
 enum-told-2 : tie.Need-enum-told-2
 enum-told-2 c = search needs
@@ -78,7 +86,7 @@ returns-3 c =
     let l = c .before .before .before .before .before .before .before in
     let k = l .before .before .before .before .before in
     let s = entry k in
-    built-done (s .args .file .now) (s .args .notices .now) (s .args .graph .now) _ _ _ _ (opened k) (long-enough l) (c .before .before .before .before .clear-all .ensures)
+    built-done (day s) (areas s) _ _ _ (opened k) (long-enough l) (c .before .before .before .before .clear-all .ensures)
 
 pub build-spec : {M : Type 1} → statement M
 build-spec =
@@ -88,7 +96,7 @@ build-spec =
     enum-known-checked
     enum-told
     returns
-    lengths-verdict-requires
+    room-verdict-requires
     enum-known-verdict
     same-length
     same-length-2

@@ -1,12 +1,20 @@
 -- `graph::clear_all` meets its contract. Assumes nothing.
 use mathlib.Core.List.{[]}
 use Rattle.timetable.specs.File.{connections}
+use Rattle.model.proofs.Runs.{none-formed}
 use Rattle.model.specs.Notices.{WellFormed}
-use Rattle.checks.proofs.Passed.{lengths-room}
-use Rattle.graph.proofs.Passed.{none-formed, written-standing, written}
+use Rattle.model.proofs.Parts.{room-long}
+use Rattle.graph.proofs.Passed.{written-standing, both-written}
+use Rattle.model.specs.Day.{Day, Areas, dayOf, lent}
 use borrow.Author.Needs.{needs}
 use Rattle.graph.proofs.clear_all.Statement.{statement}
 use Rattle.graph.proofs.clear_all.Tie as tie
+
+abbrev day : tie.Start → Day
+day s = dayOf (s .args .file .now)
+
+abbrev areas : tie.Start → Areas
+areas s = lent (s .args .notices .now) (s .args .graph .now)
 
 -- the notices that stand afterwards may stand together
 formed : (s : tie.Start) → WellFormed (connections (s .args .file .now)) []
@@ -15,14 +23,14 @@ formed s = none-formed (connections (s .args .file .now))
 clear-rows-requires : tie.Need-clear-rows-requires
 clear-rows-requires c κs =
     let s = c .before .before .before .before in
-    lengths-room (s .args .file .now) (s .args .notices .now) (s .args .graph .now) (s .pre .1) .0
+    room-long (day s) (areas s) (s .pre .1) .0
 
-draw-requires : tie.Need-draw-requires
-draw-requires c κs =
+fill-graph-requires : tie.Need-fill-graph-requires
+fill-graph-requires c κs =
     let e = c .before .before .before .before in
     let s = e .before .before .before .before .before in
-    let standing = written-standing (s .args .file .now) [] _ _ (e .clear-rows .ensures) (formed s) in
-    (s .pre .0, standing .0, lengths-room (s .args .file .now) (s .args .notices .now) (s .args .graph .now) (s .pre .1) .1)
+    let standing = written-standing (connections (s .args .file .now)) [] _ _ (e .clear-rows .ensures) (formed s) in
+    (s .pre .0, standing .0, room-long (day s) (areas s) (s .pre .1) .1)
 
 same-length : tie.Need-same-length
 same-length c = search needs
@@ -34,8 +42,8 @@ returns : tie.Need-returns
 returns c =
     let e = c .before .before .before .before .before .before .before in
     let s = e .before .before .before .before .before in
-    written (s .args .file .now) (s .args .notices .now) (s .args .graph .now) [] _ _ (formed s) (e .clear-rows .ensures) (c .before .before .draw .ensures)
+    both-written (day s) (areas s) [] _ _ (formed s) (e .clear-rows .ensures) (c .before .before .fill-graph .ensures)
 
 pub clear-all-spec : {M : Type 1} → statement M
 clear-all-spec =
-    tie.close (tie.spec clear-rows-requires draw-requires same-length same-length-2 returns)
+    tie.close (tie.spec clear-rows-requires fill-graph-requires same-length same-length-2 returns)

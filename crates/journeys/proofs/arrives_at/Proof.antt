@@ -1,6 +1,6 @@
 -- `journeys::arrives_at` meets its contract. Assumes nothing.
 use borrow.Author.Needs.{needs}
-use Rattle.journeys.proofs.Search.{test-unreached, test-reached}
+use Rattle.journeys.proofs.Last.{test-unreached, test-reached}
 use Rattle.journeys.proofs.arrives_at.Statement.{statement}
 use Rattle.journeys.proofs.arrives_at.Tie as tie
 

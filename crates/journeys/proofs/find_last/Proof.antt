@@ -5,21 +5,22 @@ use native.Mathlib.Omega.{arith}
 use borrow.Author.Needs.{needs}
 use lib.ListN.{length}
 use Rattle.timetable.specs.File.{connections}
-use Rattle.timetable.proofs.Accepted.{room-for-header}
+use Rattle.timetable.proofs.Accepted.{room-for-header, room-for}
+use Rattle.model.specs.Shown.{shown}
 use Rattle.model.proofs.Least.{scan-none}
-use Rattle.journeys.specs.Search.{Better}
-use Rattle.journeys.proofs.Search.{search-done}
+use Rattle.journeys.specs.Last.{Better}
+use Rattle.journeys.proofs.Last.{search-done}
 use Rattle.journeys.proofs.find_last.Statement.{statement}
 use Rattle.journeys.proofs.find_last.Tie as tie
 
 abbrev Inv-loop : tie.InvT-loop
-Inv-loop file graph predecessors stop stops best₀ c₀ best c = (c ≤ length predecessors) × Better file graph predecessors stop c best
+Inv-loop file graph predecessors stop stops best₀ c₀ best c = (c ≤ length predecessors) × Better (shown file graph) predecessors stop c best
 
 abbrev μ-loop : tie.MeasureT-loop
 μ-loop file graph predecessors stop stops best₀ c₀ best c = length predecessors - c
 
 stops-requires : tie.Need-stops-requires Inv-loop μ-loop
-stops-requires c κs = let s = c .before .before .before in room-for-header _ (s .pre .readable .timetable)
+stops-requires c κs = let s = c .before .before .before in room-for-header _ (s .pre .0 .timetable)
 
 cast-stops : tie.Need-cast-stops Inv-loop μ-loop
 cast-stops c = search needs
@@ -30,12 +31,8 @@ loop-holds c = (omega arith, scan-none _ _)
 better-requires : tie.Need-better-requires Inv-loop μ-loop
 better-requires c κs =
     let s = c .before .before .before .before .before .before in
-    record {
-      searched = s .pre;
-      counted = c .before .before .stops .ensures;
-      below = omega (arith, s .pre .long);
-      kept = c .before .loop .inv .1;
-    }
+    let h = room-for (s .args .file .now) (s .pre .0 .timetable) (c .before .loop .c) (omega (arith, s .pre .1)) in
+    (s .pre, (rw (c .before .before .stops .ensures) h, c .before .loop .inv .1))
 
 add-c : tie.Need-add-c Inv-loop μ-loop
 add-c c = search needs
@@ -50,8 +47,8 @@ returns : tie.Need-returns Inv-loop μ-loop
 returns c =
     let s = c .before .before .before .before .before .before in
     let l = c .before .loop in
-    let q : l .c ≡ connections (s .args .file .now) = omega (arith, s .pre .long) in
-    search-done _ _ _ _ _ (s .pre) (rw q at (l .inv .1))
+    let q : l .c ≡ connections (s .args .file .now) = omega (arith, s .pre .1) in
+    search-done _ _ _ _ (s .pre .0) _ (rw q at (l .inv .1))
 
 pub find-last-spec : {M : Type 1} → statement M
 find-last-spec =

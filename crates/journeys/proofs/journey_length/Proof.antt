@@ -4,17 +4,16 @@ use Prim.Native.Nat.{_+_}
 use native.Mathlib.Omega.{arith}
 use borrow.Author.Needs.{needs}
 use lib.ListN.{length}
-use Rattle.model.specs.Predecessors.{follow}
-use Rattle.journeys.specs.Trail.{Trail}
+use Rattle.journeys.specs.Trail.{journeyTo, Trail}
 use Rattle.journeys.proofs.Trail.{length-follow, step-on, step-last, step-more}
 use Rattle.journeys.proofs.journey_length.Statement.{statement}
 use Rattle.journeys.proofs.journey_length.Tie as tie
 
 abbrev Inv-loop : tie.InvT-loop
-Inv-loop w last k₀ c₀ k c = Trail w c × (k + length (follow w (length w) c) ≡ length (follow w (length w) last) + 1)
+Inv-loop w last k₀ c₀ k c = Trail w c × (k + length (journeyTo w c) ≡ length (journeyTo w last) + 1)
 
 abbrev μ-loop : tie.MeasureT-loop
-μ-loop w last k₀ c₀ k c = length (follow w (length w) c)
+μ-loop w last k₀ c₀ k c = length (journeyTo w c)
 
 loop-holds : tie.Need-loop-holds Inv-loop μ-loop
 loop-holds c = (c .pre, omega arith)

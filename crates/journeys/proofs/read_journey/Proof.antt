@@ -4,19 +4,19 @@ use native.Mathlib.Omega.{arith}
 use borrow.Author.Needs.{needs}
 use Rattle.model.specs.Least.{none}
 use Rattle.timetable.proofs.Accepted.{room-for-header}
-use Rattle.journeys.proofs.Reading.{read-here, part-room, searched, read-none, to-write, last-room, count-fits, read-found}
+use Rattle.journeys.proofs.Reading.{read-here, part-room, long, read-none, to-write, last-room, count-fits, read-found}
 use Rattle.journeys.proofs.read_journey.Statement.{statement}
 use Rattle.journeys.proofs.read_journey.Tie as tie
 
 returns : tie.Need-returns
 returns c =
     let s = c .before .before .before .before .before in
-    read-here _ _ _ _ _ _ _ (s .pre) (c .if1 .taken)
+    read-here _ _ _ (s .args .journey .now) _ _ _ (s .pre .0 .0) (s .pre .0 .1) (s .pre .1) (c .if1 .taken)
 
 connections-requires : tie.Need-connections-requires
 connections-requires c κs =
     let s = c .before .before .before .before .before in
-    room-for-header _ (s .pre .readable .timetable)
+    room-for-header _ (s .pre .0 .0 .timetable)
 
 cast-n : tie.Need-cast-n
 cast-n c = search needs
@@ -30,26 +30,30 @@ part-predecessors-start c = search needs
 part-predecessors-end : tie.Need-part-predecessors-end
 part-predecessors-end c =
     let s = c .before .before .before .before .before .before in
-    omega (arith, part-room _ _ _ _ _ (s .args .to) _ (s .pre) _ (c .connections .ensures))
+    let k = part-room _ _ _ (s .args .journey .now) _ (s .args .to) _ (s .pre .0 .0) (s .pre .0 .1) (s .pre .1) _ (c .connections .ensures) in
+    omega (arith, k)
 
 find-last-requires : tie.Need-find-last-requires
 find-last-requires c κs =
     let s = c .before .before .before .before .before .before .before in
-    searched _ _ _ _ _ (s .args .to) _ (s .pre) _ (c .before .connections .ensures)
+    let k = c .before .connections in
+    (s .pre .0 .0, long _ _ _ (s .args .journey .now) _ (s .args .to) _ (s .pre .0 .0) (s .pre .0 .1) (s .pre .1) _ (k .ensures))
 
 returns-2 : tie.Need-returns-2
 returns-2 c =
     let n = c .before .before .before in
     let s = n .before .before .before .before .before .before in
     let q : c .before .find-last .result ≡ none = omega arith in
-    read-none _ _ _ _ _ _ _ (s .pre) _ (n .connections .ensures) (n .before .if1 .left) _ (c .before .find-last .ensures) q
+    read-none _ _ _ (s .args .journey .now) _ _ _ (s .pre .0 .0) (s .pre .0 .1) (s .pre .1) _ (n .connections .ensures) (n .before .if1 .left)
+    _ (c .before .find-last .ensures) q
 
 write-journey-requires : tie.Need-write-journey-requires
 write-journey-requires c κs =
     let l = c .before .before in
     let n = l .before .before in
     let s = n .before .before .before .before .before .before in
-    to-write _ _ _ _ _ _ _ (s .pre) _ (n .connections .ensures) (n .before .if1 .left) _ (l .find-last .ensures) (c .before .if2 .left)
+    to-write _ _ _ (s .args .journey .now) _ _ _ (s .pre .0 .0) (s .pre .0 .1) (s .pre .1) _ (n .connections .ensures) (n .before .if1 .left)
+    _ (l .find-last .ensures) (c .before .if2 .left)
 
 cast-arrival : tie.Need-cast-arrival
 cast-arrival c = search needs
@@ -60,7 +64,8 @@ arrival-requires c κs =
     let l = i .before in
     let n = l .before .before in
     let s = n .before .before .before .before .before .before in
-    last-room _ _ _ _ _ _ _ (s .pre) _ (n .connections .ensures) (n .before .if1 .left) _ (l .find-last .ensures) (i .if2 .left)
+    last-room _ _ _ (s .args .journey .now) _ _ _ (s .pre .0 .0) (s .pre .0 .1) (s .pre .1) _ (n .connections .ensures) (n .before .if1 .left)
+    _ (l .find-last .ensures) (i .if2 .left)
 
 cast-t14 : tie.Need-cast-t14
 cast-t14 c =
@@ -69,7 +74,9 @@ cast-t14 c =
     let l = i .before in
     let n = l .before .before in
     let s = n .before .before .before .before .before .before in
-    omega (arith, count-fits _ _ _ _ _ _ _ (s .pre) _ (n .connections .ensures) (n .before .if1 .left) _ (l .find-last .ensures) (i .if2 .left) _ (j .write-journey .ensures .0))
+    let k = count-fits _ _ _ (s .args .journey .now) _ _ _ (s .pre .0 .0) (s .pre .0 .1) (s .pre .1) _ (n .connections .ensures) (n .before .if1 .left)
+    _ (l .find-last .ensures) (i .if2 .left) _ _ (j .write-journey .ensures) in
+    omega (arith, k)
 
 same-length : tie.Need-same-length
 same-length c = search needs
@@ -81,7 +88,8 @@ returns-3 c =
     let l = i .before in
     let n = l .before .before in
     let s = n .before .before .before .before .before .before in
-    read-found _ _ _ _ _ _ _ (s .pre) _ (n .connections .ensures) (n .before .if1 .left) _ (l .find-last .ensures) (i .if2 .left) _ (j .write-journey .ensures .0) _ _ (c .arrival .ensures) (j .write-journey .ensures .1)
+    read-found _ _ _ (s .args .journey .now) _ _ _ (s .pre .0 .0) (s .pre .0 .1) (s .pre .1) _ (n .connections .ensures) (n .before .if1 .left)
+    _ (l .find-last .ensures) (i .if2 .left) _ _ (j .write-journey .ensures) _ (c .arrival .ensures)
 
 pub read-journey-spec : {M : Type 1} → statement M
 read-journey-spec =

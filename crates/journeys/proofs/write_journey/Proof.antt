@@ -6,7 +6,7 @@ use native.Mathlib.Omega.{arith}
 use borrow.Author.Needs.{needs}
 use lib.ListN.{length, drop, length-set}
 use Rattle.model.specs.Predecessors.{follow}
-use Rattle.journeys.specs.Trail.{Trail}
+use Rattle.journeys.specs.Trail.{journeyTo, Trail}
 use Rattle.journeys.proofs.Trail.{length-follow, follow-exact, step-on, write-step, write-done}
 use Rattle.journeys.proofs.write_journey.Statement.{statement}
 use Rattle.journeys.proofs.write_journey.Tie as tie
@@ -70,8 +70,11 @@ returns c =
     let s = c .before .before .before .before .before in
     let w = s .args .predecessors .now in
     let q : l .i ≡ 0 = omega arith in
-    let z : follow w (k .result) (s .args .last) ≡ follow w (length w) (s .args .last) = rw (k .ensures) (follow-exact w (length w) (s .args .last)) in
-    (k .ensures, write-done w (l .c) (l .journey) (follow w (length w) (s .args .last)) (drop (k .result) (s .args .journey .now)) (rw z at (rw q at (l .inv .4))))
+    let z : follow w (k .result) (s .args .last) ≡ journeyTo w (s .args .last) = rw (k .ensures) (follow-exact w (length w) (s .args .last)) in
+    record {
+      count = k .ensures;
+      connections = write-done w (l .c) (l .journey) (journeyTo w (s .args .last)) (drop (k .result) (s .args .journey .now)) (rw z at (rw q at (l .inv .4)));
+    }
 
 pub write-journey-spec : {M : Type 1} → statement M
 write-journey-spec =

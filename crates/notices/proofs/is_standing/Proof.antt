@@ -3,15 +3,16 @@ use mathlib.Core.Path.{_≡_, sym, _∙_}
 use Prim.Native.Nat.{_≤_, _+_, _*_, _-_}
 use native.Mathlib.Nat.{sub-zero}
 use native.Mathlib.Omega.{arith}
-use lib.ListN.{getD}
-use Rattle.model.specs.Notices.{width, rowsOf, stands}
-use Rattle.notices.proofs.Turns.{toFind, find-here, find-on, find-end}
+use Rattle.model.specs.Notices.{width, room, countIn, rowsOf, stands}
+use Rattle.model.proofs.Areas.{standing-fits}
+use Rattle.notices.proofs.Finding.{toFind, find-here, find-on, find-end}
 use borrow.Author.Needs.{needs}
 use Rattle.notices.proofs.is_standing.Statement.{statement}
 use Rattle.notices.proofs.is_standing.Tie as tie
 
 abbrev Inv-loop : tie.InvT-loop
-Inv-loop notices number count k₀ k = (k ≤ count) × (toFind notices (1 + width * k) (count - k) number ≡ stands number (rowsOf notices))
+Inv-loop notices number count k₀ k =
+    (k ≤ count) × (count ≤ room) × (toFind notices (1 + width * k) (count - k) number ≡ stands number (rowsOf notices))
 
 abbrev μ-loop : tie.MeasureT-loop
 μ-loop notices number count k₀ k = count - k
@@ -21,7 +22,9 @@ shared-slice-read-count c = search needs
 
 loop-holds : tie.Need-loop-holds Inv-loop μ-loop
 unfolding rowsOf
-loop-holds c = (omega arith, rw sub-zero)
+loop-holds c =
+    let s = c .before in
+    (omega arith, standing-fits (s .pre .0) (s .args .notices .now) (s .pre .1), rw sub-zero)
 
 cast-if1 : tie.Need-cast-if1 Inv-loop μ-loop
 cast-if1 c = search needs
@@ -42,7 +45,7 @@ returns : tie.Need-returns Inv-loop μ-loop
 returns c =
     let l = c .before .before .before in
     let a = l .before .before .args in
-    find-here (a .notices .now) _ (l .loop .k) (a .number) (c .before .before .loop-test .taken) (l .loop .inv .1) (c .if1 .taken)
+    find-here (a .notices .now) _ (l .loop .k) (a .number) (c .before .before .loop-test .taken) (l .loop .inv .2) (c .if1 .taken)
 
 add-k : tie.Need-add-k Inv-loop μ-loop
 add-k c = search needs
@@ -54,13 +57,13 @@ loop-again : tie.Need-loop-again Inv-loop μ-loop
 loop-again c =
     let l = c .before .before .before in
     let a = l .before .before .args in
-    (omega arith, find-on (a .notices .now) _ (l .loop .k) (a .number) (c .before .before .loop-test .taken) (l .loop .inv .1) (c .if1 .left))
+    (omega arith, l .loop .inv .1, find-on (a .notices .now) _ (l .loop .k) (a .number) (c .before .before .loop-test .taken) (l .loop .inv .2) (c .if1 .left))
 
 returns-2 : tie.Need-returns-2 Inv-loop μ-loop
 returns-2 c =
     let l = c .before in
     let a = l .before .before .args in
-    sym (find-end (a .notices .now) (getD (a .notices .now) 0 0) (l .loop .k) (a .number) (omega arith)) ∙ l .loop .inv .1
+    sym (find-end (a .notices .now) (countIn (a .notices .now)) (l .loop .k) (a .number) (omega arith)) ∙ l .loop .inv .2
 
 pub is-standing-spec : {M : Type 1} → statement M
 is-standing-spec =

@@ -1,22 +1,25 @@
 -- `predecessors::can_be_first` meets its contract. Assumes nothing.
-use Rattle.predecessors.proofs.Read.{has-connection, has-departure, first-here, first-elsewhere}
+use borrow.Author.Needs.{needs}
+use Rattle.predecessors.proofs.Read.{first-here, first-elsewhere}
 use Rattle.predecessors.proofs.can_be_first.Statement.{statement}
 use Rattle.predecessors.proofs.can_be_first.Tie as tie
 
 from-requires : tie.Need-from-requires
-from-requires c κs = has-connection _ _ _ _ (c .before .before .pre)
+from-requires c κs = search needs
 
 departure-requires : tie.Need-departure-requires
-departure-requires c κs = has-departure _ _ _ _ (c .before .before .before .before .pre)
+departure-requires c κs = search needs
 
 returns : tie.Need-returns
 returns c =
     let k = c .before in
-    first-here _ _ _ _ (k .before .before .before .before .pre) _ _ _ (k .before .from .ensures) (k .if1 .taken) _ (c .departure .ensures)
+    let s = k .before .before .before .before in
+    first-here (s .args .file .now) (s .args .graph .now) _ _ _ _ (k .before .from .ensures) (k .if1 .taken) _ (c .departure .ensures)
 
 returns-2 : tie.Need-returns-2
 returns-2 c =
-    first-elsewhere _ _ _ _ (c .before .before .before .before .pre) _ _ _ (c .before .from .ensures) (c .if1 .left)
+    let s = c .before .before .before .before in
+    first-elsewhere (s .args .file .now) (s .args .graph .now) _ _ _ _ (c .before .from .ensures) (c .if1 .left)
 
 pub can-be-first-spec : {M : Type 1} → statement M
 can-be-first-spec = tie.close (tie.spec from-requires departure-requires returns returns-2)

@@ -10,7 +10,7 @@ use Rattle.predecessors.proofs.fill_predecessors.Statement.{statement}
 use Rattle.predecessors.proofs.fill_predecessors.Tie as tie
 
 connections-requires : tie.Need-connections-requires
-connections-requires c κs = room-for-header _ (c .before .before .before .before .pre .0 .readable .timetable)
+connections-requires c κs = room-for-header _ (c .before .before .before .before .pre .0 .0 .timetable)
 
 cast-n : tie.Need-cast-n
 cast-n c = search needs
@@ -28,8 +28,8 @@ sweep-requires : tie.Need-sweep-requires
 sweep-requires c κs =
     let k = c .before in
     let s = k .before .before .before .before .before in
-    let l : k .connections .result ≤ length (s .args .work .now) = omega (arith, k .connections .ensures, s .pre .1) in
-    (s .pre .0, part-length (s .args .work .now) (k .connections .result) l ∙ k .connections .ensures)
+    let l : k .connections .result ≤ length (s .args .work .now) = omega (arith, k .connections .ensures, s .pre .0 .1) in
+    ((s .pre .0 .0, part-length (s .args .work .now) (k .connections .result) l ∙ k .connections .ensures), s .pre .1)
 
 same-length : tie.Need-same-length
 same-length c = search needs

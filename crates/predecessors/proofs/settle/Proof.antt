@@ -1,23 +1,26 @@
 -- `predecessors::settle` meets its contract. Assumes nothing.
 use mathlib.Core.Path.{_≡_, sym, _∙_}
-use mathlib.Core.Bool.{Bool, false}
+use mathlib.Core.Bool.{false}
 use Prim.Native.Nat.{_<_}
+use native.Mathlib.Omega.{arith}
 use borrow.Author.Needs.{needs}
 use lib.ListN.{length}
 use Rattle.model.specs.Network.{Network}
 use Rattle.model.specs.Journeys.{canBeFirst}
 use Rattle.model.specs.Shown.{shown}
 use Rattle.predecessors.proofs.Steps.{settle-first, settle-aboard, settle-lower, settle-unreached, settle-alone}
-use Rattle.predecessors.proofs.Read.{has-entry, has-connection, has-before, aboard-read}
+use Rattle.predecessors.proofs.Read.{below, has-departure, has-before}
 use Rattle.predecessors.proofs.settle.Statement.{statement}
 use Rattle.predecessors.proofs.settle.Tie as tie
 
 -- d has an entry
 entry : (s : tie.Start) → s .args .d < length (s .args .work .now)
-entry s = has-entry _ _ _ _ (s .pre .0) (s .args .work .now) (s .pre .1)
+entry s = omega (arith, below (s .args .file .now) _ _ _ (s .pre .0) (s .pre .1), s .pre .2)
 
 can-be-first-requires : tie.Need-can-be-first-requires
-can-be-first-requires c κs = c .before .before .before .pre .0
+can-be-first-requires c κs =
+    let s = c .before .before .before in
+    (s .pre .1, has-departure _ _ _ _ (s .pre .0) (s .pre .1))
 
 returns : tie.Need-returns
 returns c =
@@ -31,12 +34,13 @@ shared-slice-read-collected : tie.Need-shared-slice-read-collected
 shared-slice-read-collected c = entry (c .before .before .before .before .before .before)
 
 stays-aboard-requires : tie.Need-stays-aboard-requires
-stays-aboard-requires c κs = has-connection _ _ _ _ (c .before .before .before .before .before .before .pre .0)
+stays-aboard-requires c κs = search needs
 
 sub-if3 : tie.Need-sub-if3
 sub-if3 c =
     let k = c .before in
-    has-before _ _ _ _ (k .before .before .before .before .before .before .before .pre .0) (k .stays-aboard .ensures) (c .if2 .taken)
+    let s = k .before .before .before .before .before .before .before in
+    has-before _ _ _ _ (s .pre .0) (s .pre .1) (sym (k .stays-aboard .ensures) ∙ c .if2 .taken)
 
 mul-if3 : tie.Need-mul-if3
 mul-if3 c = search needs
@@ -59,27 +63,24 @@ module _ (c : tie.After-stays-aboard) where
   later : canBeFirst net (start .args .from) (start .args .time) (start .args .d) ≡ false
   later = sym (c .before .before .before .can-be-first .ensures) ∙ c .before .before .if1 .left
 
-  aboard : {p : Bool} → c .stays-aboard .result ≡ p → net .staysAboard (start .args .d) ≡ p
-  aboard q = aboard-read _ _ _ _ (start .pre .0) (c .stays-aboard .ensures) q
-
 returns-2 : tie.Need-returns-2
 returns-2 c =
     let k = c .before .before .before in
-    settle-aboard _ _ _ _ _ (entry (start (k .before))) (later (k .before)) (aboard (k .before) (k .if2 .taken)) (c .before .if3 .taken) (c .if4 .taken)
+    settle-aboard _ _ _ _ _ (entry (start (k .before))) (later (k .before)) (sym (k .before .stays-aboard .ensures) ∙ k .if2 .taken) (c .before .if3 .taken) (c .if4 .taken)
 
 returns-3 : tie.Need-returns-3
 returns-3 c =
     let k = c .before .before .before in
-    settle-lower _ _ _ _ _ (entry (start (k .before))) (later (k .before)) (aboard (k .before) (k .if2 .taken)) (c .before .if3 .taken) (c .if4 .left)
+    settle-lower _ _ _ _ _ (entry (start (k .before))) (later (k .before)) (sym (k .before .stays-aboard .ensures) ∙ k .if2 .taken) (c .before .if3 .taken) (c .if4 .left)
 
 returns-4 : tie.Need-returns-4
 returns-4 c =
     let k = c .before .before in
-    settle-unreached _ _ _ _ _ (entry (start (k .before))) (later (k .before)) (aboard (k .before) (k .if2 .taken)) (c .if3 .left)
+    settle-unreached _ _ _ _ _ (entry (start (k .before))) (later (k .before)) (sym (k .before .stays-aboard .ensures) ∙ k .if2 .taken) (c .if3 .left)
 
 returns-5 : tie.Need-returns-5
 returns-5 c =
-    settle-alone _ _ _ _ _ (entry (start (c .before))) (later (c .before)) (aboard (c .before) (c .if2 .left))
+    settle-alone _ _ _ _ _ (entry (start (c .before))) (later (c .before)) (sym (c .before .stays-aboard .ensures) ∙ c .if2 .left)
 
 pub settle-spec : {M : Type 1} → statement M
 settle-spec =

@@ -9,7 +9,7 @@ visit-requires : tie.Need-visit-requires
 visit-requires c κs =
     let k = c .before in
     let p = k .before .before .before .before .pre in
-    (record { readable = p .0 .readable; count = p .0 .count; below = p .0 .held (k .if1 .taken) }, p .1)
+    (p .0 .0, p .0 .1 (k .if1 .taken), p .1)
 
 same-length : tie.Need-same-length
 same-length c = search needs

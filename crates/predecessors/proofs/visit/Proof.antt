@@ -1,19 +1,20 @@
 -- `predecessors::visit` meets its contract. Assumes nothing.
 use mathlib.Core.Path.{_≡_, _∙_, ap}
 use Prim.Native.Nat.{_<_}
+use native.Mathlib.Omega.{arith}
 use borrow.Author.Needs.{needs}
 use lib.ListN.{length, set}
 use Rattle.model.specs.Network.{Network}
 use Rattle.model.specs.Shown.{shown}
-use Rattle.predecessors.specs.Visits.{passed}
-use Rattle.predecessors.proofs.Steps.{passed-is, visit-reached, visit-unreached, length-visited}
-use Rattle.predecessors.proofs.Read.{has-entry, has-waiting, has-transfer, waiting-is, transfer-is}
+use Rattle.predecessors.specs.Visits.{passedOn}
+use Rattle.predecessors.proofs.Steps.{passed-on-is, visit-reached, visit-unreached, length-visited}
+use Rattle.predecessors.proofs.Read.{below, has-waiting, has-transfer, waiting-is, transfer-is}
 use Rattle.predecessors.proofs.visit.Statement.{statement}
 use Rattle.predecessors.proofs.visit.Tie as tie
 
 -- d has an entry
 entry : (s : tie.Start) → s .args .d < length (s .args .work .now)
-entry s = has-entry _ _ _ _ (s .pre .0) (s .args .work .now) (s .pre .1)
+entry s = omega (arith, below (s .args .file .now) _ _ _ (s .pre .0) (s .pre .1), s .pre .2)
 
 mul-collected : tie.Need-mul-collected
 mul-collected c = search needs
@@ -27,7 +28,7 @@ settle-requires c κs = c .before .before .before .before .before .pre
 waiting-requires : tie.Need-waiting-requires
 waiting-requires c κs =
     let s = c .before .before .before .before .before .before in
-    has-waiting _ _ _ _ (s .pre .0) _ (s .pre .1)
+    has-waiting _ _ _ _ (s .pre .0) (s .pre .1) _ (s .pre .2)
 
 offer-requires : tie.Need-offer-requires
 offer-requires c κs = search needs
@@ -49,17 +50,17 @@ module _ (c : tie.After-slice-known3) where
   abbrev net : Network
   net = shown (start .args .file .now) (start .args .graph .now)
 
-  entered : set (c .before .before .offer .last .1 .1 .0) (start .args .d) (settled .settle .result) ≡ passed net (start .args .from) (start .args .time) (start .args .work .now) (start .args .d)
+  entered : set (c .before .before .offer .last .1 .1 .0) (start .args .d) (settled .settle .result) ≡ passedOn net (start .args .from) (start .args .time) (start .args .work .now) (start .args .d)
   entered =
-      passed-is _ _ _ _ _ (entry start) _ _ _
-      (waiting-is _ _ _ _ (start .pre .0) _ (start .pre .1) _ (c .before .before .before .before .waiting .ensures))
+      passed-on-is _ _ _ _ _ (entry start) _ _ _
+      (waiting-is _ _ _ _ (start .pre .0) (start .pre .1) _ (start .pre .2) _ (c .before .before .before .before .waiting .ensures))
       (settled .settle .ensures)
       (c .before .before .offer .ensures)
 
 transfer-requires : tie.Need-transfer-requires
 transfer-requires c κs =
     let s = start (c .before) in
-    has-transfer _ _ _ _ (s .pre .0) _ (s .pre .1)
+    has-transfer _ _ _ _ (s .pre .0) (s .pre .1) _ (s .pre .2)
 
 offer-requires-2 : tie.Need-offer-requires-2
 offer-requires-2 c κs = search needs
@@ -69,7 +70,7 @@ returns c =
     let t = c .before .before .before .before in
     let k = t .before .before in
     let s = start k in
-    visit-reached _ _ _ _ _ _ _ _ _ (transfer-is _ _ _ _ (s .pre .0) _ (s .pre .1) _ (t .transfer .ensures)) (settled k .settle .ensures) (entered k) (t .before .if1 .taken) (c .before .before .offer2 .ensures)
+    visit-reached _ _ _ _ _ _ _ _ _ (transfer-is _ _ _ _ (s .pre .0) (s .pre .1) _ (s .pre .2) _ (t .transfer .ensures)) (settled k .settle .ensures) (entered k) (t .before .if1 .taken) (c .before .before .offer2 .ensures)
 
 same-length : tie.Need-same-length
 same-length c = ap length (returns c) ∙ length-visited _ _ _ _ _

@@ -1,5 +1,6 @@
 -- `runs::run` meets its contract. Assumes nothing.
-use Rattle.runs.proofs.Whole.{not-built, all-worked}
+use Rattle.runs.proofs.Building.{not-built, all-worked}
+use Rattle.model.specs.Day.{dayOf, lent}
 use borrow.Author.Needs.{needs}
 use Rattle.runs.proofs.run.Statement.{statement}
 use Rattle.runs.proofs.run.Tie as tie
@@ -21,7 +22,7 @@ returns c =
     let b = c .before .before .before .before .before .before in
     let a = b .before .before .before .before .before .before .before .before .args in
     let e = c .enum-told .given .1 in
-    rw e (not-built (a .file .now) (a .notices .now) (a .graph .now) (a .calls .now) (a .answers .now) _ _ _ _ (rw e at (b .build .ensures)))
+    rw e (not-built (dayOf (a .file .now)) (lent (a .notices .now) (a .graph .now)) (a .calls .now) (a .answers .now) _ _ _ (rw e at (b .build .ensures)))
 
 enum-told-2 : tie.Need-enum-told-2
 enum-told-2 c = search needs
@@ -45,7 +46,7 @@ returns-2 c =
     let b = t .before .before .before .before .before .before in
     let a = b .before .before .before .before .before .before .before .before .args in
     let e = t .enum-told2 .given .1 in
-    rw e (all-worked (a .file .now) (a .notices .now) (a .graph .now) (a .calls .now) (a .answers .now) _ _ _ _ _ _ (rw e at (b .build .ensures)) (w .work-all .ensures))
+    rw e (all-worked (dayOf (a .file .now)) (lent (a .notices .now) (a .graph .now)) (a .calls .now) (a .answers .now) _ _ _ _ (rw e at (b .build .ensures)) (w .work-all .ensures))
 
 pub run-spec : {M : Type 1} → statement M
 run-spec =

@@ -4,6 +4,7 @@ use Prim.Native.Nat.{_≤_, _*_, _-_}
 use native.Mathlib.Omega.{arith}
 use lib.ListN.{length, length-set}
 use Rattle.graph.specs.Answers.{toldNumber}
+use Rattle.model.specs.Day.{dayOf, lent}
 use Rattle.model.specs.Runs.{ran}
 use Rattle.runs.specs.Calls.{answerWidth, callsOf}
 use Rattle.runs.proofs.Turn.{Left, start, turn, end, length-pair}
@@ -14,7 +15,7 @@ use Rattle.runs.proofs.work_all.Tie as tie
 abbrev Inv-loop : tie.InvT-loop
 Inv-loop file notices₀ graph₀ calls answers₀ n k₀ notices graph answers k =
     (k ≤ n) × (length notices ≡ length notices₀) × (length graph ≡ length graph₀) × (length answers ≡ length answers₀)
-    × Left file calls n (ran file notices₀ graph₀ (callsOf n calls)) answers₀ k notices graph answers
+    × Left (dayOf file) calls n (ran (dayOf file) (lent notices₀ graph₀) (callsOf n calls)) answers₀ k (lent notices graph) answers
 
 abbrev μ-loop : tie.MeasureT-loop
 μ-loop file notices₀ graph₀ calls answers₀ n k₀ notices graph answers k = n - k
@@ -23,7 +24,7 @@ lesser-requires : tie.Need-lesser-requires Inv-loop μ-loop
 lesser-requires c κs = search needs
 
 loop-holds : tie.Need-loop-holds Inv-loop μ-loop
-loop-holds c = (omega arith, refl, refl, refl, start _ _ _ _ _ _)
+loop-holds c = (omega arith, refl, refl, refl, start _ _ _ _ _)
 
 mul-at : tie.Need-mul-at Inv-loop μ-loop
 mul-at c = search needs
@@ -108,7 +109,7 @@ loop-again c =
     let n = l .before .lesser .result in
     let h : answerWidth * n ≤ length (l .loop .answers) = omega (arith, l .before .lesser .ensures, i .3) in
     rw (c .before .number-of .ensures, c .value-of .ensures)
-    (omega arith, w .kept .1 .0 ∙ i .1, w .kept .1 .1 .0 ∙ i .2, length-pair (l .loop .answers) (answerWidth * l .loop .k) _ _ ∙ i .3, turn (a .file .now) (a .calls .now) n _ _ (l .loop .k) (l .loop .notices) (l .loop .graph) (l .loop .answers) (w .last .1 .0) (w .last .1 .1 .0) (toldNumber (w .result)) (t .loop-test .taken) h (w .ensures) (i .4))
+    (omega arith, w .kept .1 .0 ∙ i .1, w .kept .1 .1 .0 ∙ i .2, length-pair (l .loop .answers) (answerWidth * l .loop .k) _ _ ∙ i .3, turn (dayOf (a .file .now)) (a .calls .now) n _ _ (l .loop .k) (lent (l .loop .notices) (l .loop .graph)) (l .loop .answers) (lent (w .last .1 .0) (w .last .1 .1 .0)) (toldNumber (w .result)) (t .loop-test .taken) h (w .ensures) (i .4))
 
 same-length : tie.Need-same-length Inv-loop μ-loop
 same-length c = c .before .loop .inv .1
@@ -125,7 +126,7 @@ returns c =
     let a = l .before .before .before .before .before .before .before .args in
     let n = l .before .lesser .result in
     let e : l .loop .k ≡ n = omega arith in
-    rw (← (l .before .lesser .ensures)) (end (a .file .now) (a .calls .now) n _ _ (l .loop .k) (l .loop .notices) (l .loop .graph) (l .loop .answers) e (l .loop .inv .4))
+    rw (← (l .before .lesser .ensures)) (end (dayOf (a .file .now)) (a .calls .now) n _ _ (l .loop .k) (lent (l .loop .notices) (l .loop .graph)) (l .loop .answers) e (l .loop .inv .4))
 
 pub work-all-spec : {M : Type 1} → statement M
 work-all-spec =

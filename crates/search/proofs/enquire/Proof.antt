@@ -1,9 +1,9 @@
 -- `search::enquire` meets its contract. Assumes nothing.
-use mathlib.Core.Path.{_∙_}
-use borrow.Author.Needs.{needs}
-use Rattle.timetable.proofs.Accepted.{accepted-iff}
+use mathlib.Core.Path.{refl, ap}
+use Rattle.timetable.specs.Check.{toldCounts}
 use Rattle.timetable.proofs.Answered.{opened-by, refused-by}
-use Rattle.search.proofs.Enquiries.{enquired-refused, enquired-parts, answered-by}
+use Rattle.search.proofs.Enquiries.{enquired-refused, answered-by}
+use borrow.Author.Needs.{needs}
 use Rattle.search.proofs.enquire.Statement.{statement}
 use Rattle.search.proofs.enquire.Tie as tie
 
@@ -21,15 +21,16 @@ refused-enquiry-requires c κs = search needs
 
 returns : tie.Need-returns
 returns c =
-    let q = c .before .enum-told .given .1 in
-    let k = c .before .before .before in
-    answered-by _ _ _ _ _ _ _ _ _ _ _
-    (rw (c .refused-enquiry .ensures _ _ q) (enquired-refused _ _ _ _ _ _ _ _ _ _ (refused-by _ _ (k .check .ensures) _ _ q)))
+    let k = c .before .before .before .check in
+    let e = c .before .enum-told .given .1 in
+    rw (c .refused-enquiry .ensures _ _ (ap toldCounts e))
+    (answered-by _ _ _ _ _ _ _ _ _ _ (enquired-refused _ _ _ _ _ _ _ _ _ (refused-by _ (k .result) (k .ensures) _ _ e)))
 
 enquire-by-requires : tie.Need-enquire-by-requires
 enquire-by-requires c κs =
-    let x = c .before .before .before in
-    opened-by _ _ (x .before .before .check .ensures) _ _ (x .checked .given .1)
+    let k = c .before .before .before .before .before .check in
+    let o = opened-by _ (k .result) (k .ensures) _ _ (c .before .before .before .checked .given .1) in
+    record { timetable = o .timetable; stops = o .stops; connections = refl }
 
 same-length : tie.Need-same-length
 same-length c = search needs
@@ -40,9 +41,7 @@ same-length-2 c = search needs
 returns-2 : tie.Need-returns-2
 returns-2 c =
     let b = c .before .before .before .before in
-    let x = b .before .before .before .before in
-    let p = opened-by _ _ (x .before .before .check .ensures) _ _ (x .checked .given .1) in
-    answered-by _ _ _ _ _ _ _ _ _ _ _ (b .enquire-by .ensures ∙ enquired-parts _ _ _ _ _ _ _ _ (accepted-iff _ .1 (p .timetable)))
+    answered-by _ _ _ _ _ _ _ _ _ _ (b .enquire-by .ensures)
 
 pub enquire-spec : {M : Type 1} → statement M
 enquire-spec =

@@ -3,17 +3,17 @@ use borrow.Author.Needs.{needs}
 use Rattle.search.proofs.refused_enquiry.Statement.{statement}
 use Rattle.search.proofs.refused_enquiry.Tie as tie
 
-enum-known-checked : tie.Need-enum-known-checked
-enum-known-checked c = search needs
-
 enum-told : tie.Need-enum-told
 enum-told c = search needs
 
+enum-known-checked : tie.Need-enum-known-checked
+enum-known-checked c = search needs
+
 returns : tie.Need-returns
-returns c = λ n p q. let e = c .before .checked .given .1 in cc
+returns c = λ n p e. let h = rw (c .enum-told .given .1) at e in cc
 
 returns-2 : tie.Need-returns-2
-returns-2 c = λ n p q. let e = c .enum-told .given .1 in cc
+returns-2 c = λ n p e. let h = rw (c .before .checked .given .1) at e in cc
 
 pub refused-enquiry-spec : {M : Type 1} → statement M
-refused-enquiry-spec = tie.close (tie.spec enum-known-checked enum-told returns returns-2)
+refused-enquiry-spec = tie.close (tie.spec enum-told enum-known-checked returns returns-2)

@@ -1,6 +1,6 @@
 -- `search::request_verdict` meets its contract. Assumes nothing.
 use native.Mathlib.Omega.{arith}
-use Rattle.search.proofs.Verdicts.{request-unknown, request-late, request-passes}
+use Rattle.search.proofs.Asked.{request-unknown, request-late, request-passes}
 use Rattle.search.proofs.request_verdict.Statement.{statement}
 use Rattle.search.proofs.request_verdict.Tie as tie
 

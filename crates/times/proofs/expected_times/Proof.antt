@@ -5,8 +5,9 @@ use Prim.Native.Nat.{ℕ, _-_}
 use native.Mathlib.Omega.{arith}
 use lib.ListN.{replicate}
 use borrow.Rule.Slice.PartMut.{same-len-mid}
+use Rattle.timetable.specs.File.{connections}
 use Rattle.timetable.specs.Check.{maxConnections}
-use Rattle.times.proofs.Delays.{standing-kept, delays-most, times-standing}
+use Rattle.times.proofs.Delays.{standing-room, delays-most, times-standing}
 use borrow.Author.Needs.{needs}
 use Rattle.times.proofs.expected_times.Statement.{statement}
 use Rattle.times.proofs.expected_times.Tie as tie
@@ -17,17 +18,17 @@ shared-slice-read-end c = search needs
 cast-end : tie.Need-cast-end
 cast-end c =
     let s = c .before .before .before .before in
-    omega (arith, standing-kept (s .args .file .now) (s .args .notices .now) (s .pre .1))
+    omega (arith, standing-room (connections (s .args .file .now)) (s .args .notices .now) (s .pre .1))
 
 mul-end : tie.Need-mul-end
 mul-end c =
     let s = c .before .before .before .before in
-    omega (arith, standing-kept (s .args .file .now) (s .args .notices .now) (s .pre .1))
+    omega (arith, standing-room (connections (s .args .file .now)) (s .args .notices .now) (s .pre .1))
 
 add-end : tie.Need-add-end
 add-end c =
     let s = c .before .before .before .before in
-    omega (arith, standing-kept (s .args .file .now) (s .args .notices .now) (s .pre .1))
+    omega (arith, standing-room (connections (s .args .file .now)) (s .args .notices .now) (s .pre .1))
 
 sub-primary-delays : tie.Need-sub-primary-delays
 sub-primary-delays c = search needs
@@ -38,7 +39,7 @@ part-primary-delays-start c = search needs
 part-primary-delays-end : tie.Need-part-primary-delays-end
 part-primary-delays-end c =
     let s = c .before .before .before .before in
-    omega (arith, standing-kept (s .args .file .now) (s .args .notices .now) (s .pre .1))
+    omega (arith, standing-room (connections (s .args .file .now)) (s .args .notices .now) (s .pre .1))
 
 sub-primary-delays-2 : tie.Need-sub-primary-delays-2
 sub-primary-delays-2 c = search needs

@@ -5,12 +5,12 @@ use mathlib.Core.List.{_++_}
 use Prim.Native.Nat.{ℕ, suc, _+_, _*_, _-_, _≤_, _<_}
 use native.Mathlib.Omega.{arith}
 use borrow.Author.Needs.{needs}
-use lib.ListN.{length, getD, drop, length-set}
+use lib.ListN.{length, drop, length-set}
 use Rattle.model.specs.Graph.{times}
 use Rattle.model.specs.Times.{Conditions, travelTime, expectedDeparture, expectedArrival}
 use Rattle.model.proofs.Times.{travel-kept}
 use Rattle.times.specs.Times.{conditionsIn, networkIn, departsAt, longestTime}
-use Rattle.times.proofs.Turns.{departs-is, arrives-by, times-asked, times-more, times-done}
+use Rattle.times.proofs.Filling.{departs-is, arrives-by, times-asked, times-more, times-done}
 use Rattle.times.proofs.fill_times.Statement.{statement}
 use Rattle.times.proofs.fill_times.Tie as tie
 
@@ -74,9 +74,9 @@ loop-again c =
     let i : ℕ = a .loop .c in
     let l : i < s .args .n = c .before .before .loop-test .taken in
     let d : c .times-at .result .departure ≡ expectedDeparture f conditions i =
-    _∙_ {b = departsAt f i (conditions .delay i) (a .loop .before)} (c .times-at .ensures .0) (departs-is f conditions i (a .loop .before) (a .loop .inv .4)) in
+    _∙_ {b = departsAt f i (conditions .delay i) (a .loop .before)} (c .times-at .ensures .departs) (departs-is f conditions i (a .loop .before) (a .loop .inv .4)) in
     let v : c .times-at .result .arrival ≡ expectedArrival f conditions i =
-    _∙_ {b = c .times-at .result .departure + travelTime f i} (c .times-at .ensures .1) (rw (d, travel-kept f conditions i)) in (
+    _∙_ {b = c .times-at .result .departure + travelTime f i} (c .times-at .ensures .arrives) (rw (d, travel-kept f conditions i)) in (
       omega arith,
       simp length-set (a .loop .inv .1),
       times-more (networkIn f (s .args .delays .now)) i _ _ (a .loop .area) (s .args .area .now) (a .loop .inv .2) (omega (arith, s .pre .2)) d v,

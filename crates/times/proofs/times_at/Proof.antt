@@ -4,7 +4,7 @@ use mathlib.Core.Bool.{true}
 use mathlib.Core.Logic.{inl, inr, ⊎-elim}
 use native.Mathlib.Omega.{arith}
 use borrow.Author.Needs.{needs}
-use Rattle.times.proofs.Turns.{own-stands}
+use Rattle.times.proofs.Filling.{own-stands}
 use Rattle.times.proofs.times_at.Statement.{statement}
 use Rattle.times.proofs.times_at.Tie as tie
 
@@ -32,7 +32,7 @@ returns c =
     let k = b .before in
     let d = k .before .scheduled-departure .ensures in
     let e : b .stays-aboard .result ≡ true = c .before .if1 .taken in
-    (rw (← b .stays-aboard .ensures, e) (omega (arith, d)), omega (arith, d, k .scheduled-arrival .ensures))
+    record { departs = rw (← b .stays-aboard .ensures, e) (omega (arith, d)); arrives = omega (arith, d, k .scheduled-arrival .ensures) }
 
 add-t9 : tie.Need-add-t9
 add-t9 c = search needs
@@ -41,10 +41,11 @@ returns-2 : tie.Need-returns-2
 returns-2 c =
     let b = c .before in
     let k = b .before in
-    let d = k .before .scheduled-departure .ensures in (
-      rw (← b .stays-aboard .ensures, ← d) (own-stands (b .stays-aboard .result) _ _ (⊎-elim (λ w. inl (w .0 .taken, w .1 .left)) (λ w. inr (w .left)) (c .if1 .came))),
-      omega (arith, d, k .scheduled-arrival .ensures),
-    )
+    let d = k .before .scheduled-departure .ensures in
+    record {
+      departs = rw (← b .stays-aboard .ensures, ← d) (own-stands (b .stays-aboard .result) _ _ (⊎-elim (λ w. inl (w .0 .taken, w .1 .left)) (λ w. inr (w .left)) (c .if1 .came)));
+      arrives = omega (arith, d, k .scheduled-arrival .ensures);
+    }
 
 pub times-at-spec : {M : Type 1} → statement M
 times-at-spec =

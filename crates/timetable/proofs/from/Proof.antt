@@ -4,36 +4,12 @@ use borrow.Author.Needs.{needs}
 use Rattle.timetable.proofs.from.Statement.{statement}
 use Rattle.timetable.proofs.from.Tie as tie
 
-mul-number-at : tie.Need-mul-number-at
-mul-number-at c = search needs
-
-add-number-at : tie.Need-add-number-at
-add-number-at c = search needs
-
-mul-number-at-2 : tie.Need-mul-number-at-2
-mul-number-at-2 c = search needs
-
-add-number-at-2 : tie.Need-add-number-at-2
-add-number-at-2 c = search needs
-
-add-number-at-3 : tie.Need-add-number-at-3
-add-number-at-3 c = search needs
-
-number-at-requires : tie.Need-number-at-requires
-number-at-requires c κs = search needs
+field-requires : tie.Need-field-requires
+field-requires c κs = search needs
 
 returns : tie.Need-returns
 unfolding from
-returns c = rw (← c .before .before .pre .count) (c .number-at .ensures)
+returns c = search needs
 
 pub from-spec : {M : Type 1} → statement M
-from-spec =
-    tie.close
-    (tie.spec
-    mul-number-at
-    add-number-at
-    mul-number-at-2
-    add-number-at-2
-    add-number-at-3
-    number-at-requires
-    returns)
+from-spec = tie.close (tie.spec field-requires returns)

@@ -4,6 +4,7 @@ use mathlib.Core.Path.{_≡_, sym}
 use Prim.Native.Nat.{_≤_, _-_}
 use native.Mathlib.Omega.{arith}
 use Rattle.timetable.specs.Answers.{firstBelow}
+use Rattle.timetable.specs.RefusalNumber as refusal
 use Rattle.timetable.specs.Check.{stopVerdict}
 use Rattle.timetable.specs.declared.Verdict.the-variants.{Passed}
 use Rattle.timetable.proofs.Order.{first-refuses, passed-more, passed-all}
@@ -31,7 +32,7 @@ returns : tie.Need-returns Inv-loop μ-loop
 returns c =
     let l = c .before .before .before in
     let a = l .before .before .args in
-    sym (first-refuses (stopVerdict (a .file .now)) (l .loop .s) (a .n) 7 (l .loop .s) (c .before .before .loop-test .taken) (rule7 (a .file .now) (l .loop .s) .finds (λ h. omega arith)) (l .loop .inv .1))
+    sym (first-refuses (stopVerdict (a .file .now)) (l .loop .s) (a .n) refusal.wrongTransferTime (l .loop .s) (c .before .before .loop-test .taken) (rule7 (a .file .now) (l .loop .s) .finds (λ h. omega arith)) (l .loop .inv .1))
 
 add-s : tie.Need-add-s Inv-loop μ-loop
 add-s c = search needs

@@ -1,11 +1,13 @@
-//! bench [SAMPLES]: microseconds of the library and of the fast implementation, interleaved.
+//! bench [SAMPLES]: microseconds of the library and of the fast implementation, interleaved: calls
+//! with one timetable, then with sixteen in turn.
 //! bench one OP C NOTICES SIDE REPEATS: one operation alone, for instruction counts; the
 //! difference of two repeat counts is the cost of the repeats between. Before each posting or
 //! withdrawal both areas are copied back; OP `restore` is that copying alone.
+//! bench operations: their names.
 
 use compare::ffi::PANEL;
 use compare::gen::{day, timetable, Rng};
-use compare::harness::{Side, CALLS, FAST};
+use compare::harness::{Call, Side, CALLS, FAST};
 use std::hint::black_box;
 use std::process::ExitCode;
 use std::time::Instant;
@@ -14,6 +16,8 @@ const SIZES: [usize; 5] = [125, 250, 500, 1000, 2000];
 const STANDING: [usize; 3] = [0, 3, 200];
 /// The number that is posted and withdrawn; it sorts into the middle of the others.
 const NUMBER: u16 = 30_000;
+/// How many timetables are called in turn.
+const TIMETABLES: usize = 16;
 
 #[derive(Clone)]
 struct Areas {
@@ -23,20 +27,36 @@ struct Areas {
     journey: Vec<u8>,
 }
 
+impl Areas {
+    fn call(&mut self, side: &Side, file: &[u8], call: Call) -> i64 {
+        let areas = [
+            &mut self.notices[..],
+            &mut self.graph,
+            &mut self.work,
+            &mut self.journey,
+        ];
+        side.call(file, areas, call)
+    }
+}
+
+/// A timetable and the areas that calls with it work on.
+#[derive(Clone)]
 struct Setup {
     file: Vec<u8>,
     s: usize,
     c: usize,
-    /// With so many notices standing.
-    full: Areas,
-    /// The state that is posted to: the same, but 199 in place of 200.
+    /// Built anew.
+    fresh: Areas,
+    /// Posted to and withdrawn from: as `full`, but 199 notices in place of 200.
     base: Areas,
+    /// With so many notices standing; for the other operations.
+    full: Areas,
 }
 
 impl Setup {
-    fn new(c: usize, standing: usize) -> Setup {
+    fn new(c: usize, standing: usize, seed: u64) -> Setup {
         let s = (c / 8).max(2);
-        let mut rng = Rng(c as u64);
+        let mut rng = Rng(seed);
         let file = timetable(&mut rng, s, c, &day());
         let mut full = Areas {
             notices: vec![0; 1202],
@@ -44,23 +64,14 @@ impl Setup {
             work: vec![0; 2 * c],
             journey: vec![0; 2 * c],
         };
-        (FAST.build)(&file, &mut full.notices, &mut full.graph);
+        full.call(&FAST, &file, Call::Build);
+        let fresh = full.clone();
         let mut base = full.clone();
         for i in 0..standing {
-            if i < 199 {
-                base = full.clone();
-            }
             let number = (1 + i * 7919 % 60_013) as u16;
             let (ride, delay) = (rng.below(c) as u16, rng.range(1, 60) as u16);
-            let a = (FAST.post)(
-                &file,
-                &mut full.notices,
-                &mut full.graph,
-                number,
-                ride,
-                delay,
-            );
-            assert_eq!(a, 65536 * u64::from(number));
+            let answer = full.call(&FAST, &file, Call::Post(number, ride, delay));
+            assert_eq!(answer, 65536 * i64::from(number));
             if i < 199 {
                 base = full.clone();
             }
@@ -69,64 +80,53 @@ impl Setup {
             file,
             s,
             c,
-            full,
+            fresh,
             base,
+            full,
         }
     }
 
-    /// Ride and delay of a posting.
-    fn notice(&self, rng: &mut Rng) -> (u16, u16) {
-        (rng.below(self.c) as u16, rng.range(1, 360) as u16)
+    /// The timetable that is measured alone.
+    fn alone(c: usize, standing: usize) -> Setup {
+        Setup::new(c, standing, c as u64)
     }
 
-    /// From, to and time of an enquiry: any two stops, 05:00 to 12:00.
-    fn enquiry(&self, rng: &mut Rng) -> (u16, u16, u16) {
-        let from = rng.below(self.s);
-        let to = (from + rng.range(1, self.s - 1)) % self.s;
-        (from as u16, to as u16, rng.range(300, 720) as u16)
+    fn posting(&self, rng: &mut Rng) -> Call {
+        Call::Post(NUMBER, rng.below(self.c) as u16, rng.range(1, 360) as u16)
     }
 
-    fn post(&self, side: &Side, a: &mut Areas, (ride, delay): (u16, u16)) {
-        let r = (side.post)(
-            &self.file,
-            &mut a.notices,
-            &mut a.graph,
-            NUMBER,
-            ride,
-            delay,
-        );
-        assert_eq!(r, 65536 * u64::from(NUMBER));
+    /// A call of the operation that CALLS has at this place. An enquiry is between any two stops,
+    /// 05:00 to 12:00.
+    fn draw(&self, op: usize, rng: &mut Rng) -> Call {
+        match op {
+            0 => Call::Check,
+            1 => Call::Build,
+            2 => self.posting(rng),
+            3 => Call::Withdraw(NUMBER),
+            4 => {
+                let from = rng.below(self.s);
+                let to = (from + rng.range(1, self.s - 1)) % self.s;
+                Call::Enquire(from as u16, to as u16, rng.range(300, 720) as u16)
+            }
+            _ => {
+                let ride = rng.below(self.c) as u16;
+                Call::Margin(ride, ride / 2)
+            }
+        }
     }
 
-    fn withdraw(&self, side: &Side, a: &mut Areas) {
-        let r = (side.withdraw)(&self.file, &mut a.notices, &mut a.graph, NUMBER);
-        assert_eq!(r, 65536 * u64::from(NUMBER));
+    /// Makes a call on its areas.
+    fn call(&mut self, side: &Side, call: Call) {
+        let areas = match call {
+            Call::Build => &mut self.fresh,
+            Call::Post(..) | Call::Withdraw(..) => &mut self.base,
+            Call::Check | Call::Enquire(..) | Call::Margin(..) => &mut self.full,
+        };
+        let answer = black_box(areas.call(side, &self.file, call));
+        if let Call::Post(number, ..) | Call::Withdraw(number) = call {
+            assert_eq!(answer, 65536 * i64::from(number));
+        }
     }
-
-    fn enquire(&self, side: &Side, a: &mut Areas, (from, to, time): (u16, u16, u16)) {
-        let (w, j) = (&mut a.work, &mut a.journey);
-        black_box((side.enquire)(
-            &self.file, &a.notices, &a.graph, w, j, from, to, time,
-        ));
-    }
-
-    fn margin(&self, side: &Side, a: &Areas, ride: u16) {
-        black_box((side.margin)(
-            &self.file,
-            &a.notices,
-            &a.graph,
-            ride,
-            ride / 2,
-        ));
-    }
-}
-
-fn time(calls: usize, mut f: impl FnMut()) -> f64 {
-    let start = Instant::now();
-    for _ in 0..calls {
-        f();
-    }
-    start.elapsed().as_secs_f64() * 1e6 / calls as f64
 }
 
 fn median(mut v: Vec<f64>) -> f64 {
@@ -134,57 +134,58 @@ fn median(mut v: Vec<f64>) -> f64 {
     v[v.len() / 2]
 }
 
-/// Medians by operation, of the library and of the fast implementation.
-fn measure(c: usize, standing: usize, samples: usize) -> [[f64; 2]; 6] {
-    let x = Setup::new(c, standing);
-    let sides = [&PANEL, &FAST];
-    let mut full = [x.full.clone(), x.full.clone()];
-    let mut base = [x.base.clone(), x.base.clone()];
-    let mut fresh = [x.base.clone(), x.base.clone()];
-    let mut all: Vec<[Vec<f64>; 2]> = vec![Default::default(); 6];
+/// By operation, of the library and of the fast implementation.
+type Medians = [[f64; 2]; CALLS.len()];
+
+/// A sample of an operation is the mean of a call with each timetable in turn, repeated. A posting
+/// and a withdrawal take turns with the areas, so neither is repeated.
+fn measure(timetables: &[Setup], repeats: [usize; CALLS.len()], samples: usize) -> Medians {
+    let mut sides = [(&PANEL, timetables.to_vec()), (&FAST, timetables.to_vec())];
+    let mut all: [[Vec<f64>; 2]; CALLS.len()] = Default::default();
     let mut rng = Rng(99);
     for i in 0..samples {
-        let n = x.notice(&mut rng);
-        let e = x.enquiry(&mut rng);
+        let calls: [Vec<Call>; CALLS.len()] =
+            std::array::from_fn(|op| timetables.iter().map(|t| t.draw(op, &mut rng)).collect());
         for k in [i % 2, 1 - i % 2] {
-            let side = sides[k];
-            let mut put = |op: usize, t: f64| all[op][k].push(t);
-            put(
-                0,
-                time(4, || {
-                    black_box((side.check)(&x.file));
-                }),
-            );
-            let f = &mut fresh[k];
-            put(
-                1,
-                time(2, || {
-                    black_box((side.build)(&x.file, &mut f.notices, &mut f.graph));
-                }),
-            );
-            put(2, time(1, || x.post(side, &mut base[k], n)));
-            put(3, time(1, || x.withdraw(side, &mut base[k])));
-            put(4, time(2, || x.enquire(side, &mut full[k], e)));
-            put(5, time(2, || x.margin(side, &full[k], n.0)));
+            let (side, setups) = &mut sides[k];
+            for op in 0..CALLS.len() {
+                let start = Instant::now();
+                for _ in 0..repeats[op] {
+                    for (x, call) in setups.iter_mut().zip(&calls[op]) {
+                        x.call(side, *call);
+                    }
+                }
+                let count = repeats[op] * setups.len();
+                all[op][k].push(start.elapsed().as_secs_f64() * 1e6 / count as f64);
+            }
         }
     }
-    std::array::from_fn(|op| std::array::from_fn(|k| median(all[op][k].clone())))
+    all.map(|sides| sides.map(median))
 }
 
-fn table(samples: usize) {
-    println!("microseconds, median of {samples}; ratio is library / rust");
-    println!("200 notices: posting the 200th and withdrawing it; else one more than stand");
+fn print_head() {
     println!(
         "{:>5} {:>7}  {:8} {:>9} {:>9} {:>7}",
         "C", "notices", "", "library", "rust", "ratio"
     );
+}
+
+fn print_rows(c: usize, standing: usize, medians: &Medians) {
+    for (name, [a, b]) in CALLS.iter().zip(medians) {
+        let ratio = a / b;
+        println!("{c:5} {standing:7}  {name:8} {a:9.2} {b:9.2} {ratio:7.2}");
+    }
+}
+
+fn alone(samples: usize) {
+    println!("microseconds, median of {samples}; ratio is library / rust");
+    println!("200 notices: posting the 200th and withdrawing it; else one more than stand");
+    print_head();
     let mut results = Vec::new();
     for c in SIZES {
         for n in STANDING {
-            let m = measure(c, n, samples);
-            for (op, [a, b]) in m.iter().enumerate() {
-                println!("{c:5} {n:7}  {:8} {a:9.2} {b:9.2} {:7.2}", CALLS[op], a / b);
-            }
+            let m = measure(&[Setup::alone(c, n)], [4, 2, 1, 1, 2, 2], samples);
+            print_rows(c, n, &m);
             results.push((c, n, m));
         }
     }
@@ -194,52 +195,52 @@ fn table(samples: usize) {
     for n in STANDING {
         let of = |c: usize| results.iter().find(|r| r.0 == c && r.1 == n).map(|r| r.2);
         if let (Some(a), Some(b)) = (of(1000), of(2000)) {
-            for op in 0..6 {
+            for (op, name) in CALLS.iter().enumerate() {
                 let g = |k: usize| b[op][k] / a[op][k];
-                println!("{n:7}  {:8} {:9.2} {:9.2}", CALLS[op], g(0), g(1));
+                println!("{n:7}  {name:8} {:9.2} {:9.2}", g(0), g(1));
             }
         }
     }
 }
 
+fn in_turn(samples: usize) {
+    println!("microseconds with {TIMETABLES} timetables in turn, median of {samples} means");
+    print_head();
+    for c in SIZES {
+        let seed = |k: usize| (c + 10_000 * k) as u64;
+        let timetables: Vec<Setup> = (0..TIMETABLES).map(|k| Setup::new(c, 3, seed(k))).collect();
+        print_rows(c, 3, &measure(&timetables, [1; CALLS.len()], samples));
+    }
+}
+
+fn tables(samples: usize) {
+    alone(samples);
+    println!();
+    in_turn(samples);
+}
+
 fn one(op: &str, c: usize, standing: usize, side: &Side, repeats: usize) -> bool {
-    let x = Setup::new(c, standing);
-    let mut a = x.full.clone();
-    let mut b = x.base.clone();
+    let place = CALLS.iter().position(|name| *name == op);
+    if place.is_none() && op != "restore" {
+        return false;
+    }
+    let restores = matches!(op, "post" | "withdraw" | "restore");
+    let mut x = Setup::alone(c, standing);
     let mut rng = Rng(99);
     if op == "withdraw" {
-        let n = x.notice(&mut rng);
-        x.post(&FAST, &mut b, n);
+        let posting = x.posting(&mut rng);
+        x.call(&FAST, posting);
     }
-    let start = b.clone();
+    let start = x.base.clone();
     for _ in 0..repeats {
-        if matches!(op, "post" | "withdraw" | "restore") {
-            b.notices.copy_from_slice(&start.notices);
-            b.graph.copy_from_slice(&start.graph);
-            black_box(&mut b);
+        if restores {
+            x.base.notices.copy_from_slice(&start.notices);
+            x.base.graph.copy_from_slice(&start.graph);
+            black_box(&mut x.base);
         }
-        match op {
-            "restore" => {}
-            "check" => {
-                black_box((side.check)(&x.file));
-            }
-            "build" => {
-                black_box((side.build)(&x.file, &mut b.notices, &mut b.graph));
-            }
-            "post" => {
-                let n = x.notice(&mut rng);
-                x.post(side, &mut b, n);
-            }
-            "withdraw" => x.withdraw(side, &mut b),
-            "enquire" => {
-                let e = x.enquiry(&mut rng);
-                x.enquire(side, &mut a, e);
-            }
-            "margin" => {
-                let n = x.notice(&mut rng);
-                x.margin(side, &a, n.0);
-            }
-            _ => return false,
+        if let Some(place) = place {
+            let call = x.draw(place, &mut rng);
+            x.call(side, call);
         }
     }
     true
@@ -251,11 +252,15 @@ fn main() -> ExitCode {
     let number = |w: &str| w.parse::<usize>().ok();
     let ok = match words[..] {
         [] => {
-            table(301);
+            tables(301);
+            true
+        }
+        ["operations"] => {
+            println!("{}", CALLS.join(" "));
             true
         }
         [n] if number(n).is_some_and(|n| n > 0) => {
-            table(number(n).unwrap_or(1));
+            tables(number(n).unwrap_or(1));
             true
         }
         ["one", op, c, n, side, repeats] => {
@@ -268,7 +273,9 @@ fn main() -> ExitCode {
         _ => false,
     };
     if !ok {
-        eprintln!("usage: bench [SAMPLES] | bench one OP C NOTICES rust|library REPEATS");
+        eprintln!(
+            "usage: bench [SAMPLES] | bench operations | bench one OP C NOTICES rust|library REPEATS"
+        );
         return ExitCode::from(2);
     }
     ExitCode::SUCCESS

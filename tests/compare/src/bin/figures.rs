@@ -1,11 +1,10 @@
 //! figures SVG: reads the lines of counts.sh, prints them as a table and draws them into the file SVG.
 
+use compare::harness::CALLS;
 use std::collections::BTreeMap;
 use std::fmt::Write;
 use std::io::Read;
 use std::process::ExitCode;
-
-const OPERATIONS: [&str; 6] = ["check", "build", "post", "withdraw", "enquire", "margin"];
 
 /// By connections, operation and side.
 type Counts = BTreeMap<(usize, usize, bool), f64>;
@@ -17,7 +16,7 @@ fn read(text: &str) -> Option<Counts> {
         let [c, _, side, op, n] = words[..] else {
             return None;
         };
-        let op = OPERATIONS.iter().position(|o| *o == op)?;
+        let op = CALLS.iter().position(|o| *o == op)?;
         counts.insert((c.parse().ok()?, op, side == "library"), n.parse().ok()?);
     }
     Some(counts)
@@ -49,7 +48,7 @@ fn table(counts: &Counts) {
         .collect();
     println!("| Operation | | {} |", heads.join(" | "));
     println!("|---|---|{}", "---|".repeat(sizes.len()));
-    for (op, name) in OPERATIONS.iter().enumerate() {
+    for (op, name) in CALLS.iter().enumerate() {
         let row =
             |side: bool| -> Vec<f64> { sizes.iter().map(|c| counts[&(*c, op, side)]).collect() };
         let (library, rust) = (row(true), row(false));
@@ -115,7 +114,7 @@ fn panel(svg: &mut String, counts: &Counts, op: usize, left: f64, top: f64) {
         svg,
         r##"<text x="{left:.1}" y="{:.1}" font-weight="bold">{}</text>"##,
         top - 8.0,
-        OPERATIONS[op]
+        CALLS[op]
     );
     for (side, colour) in [(false, "#888"), (true, "#05a")] {
         let points: Vec<String> = sizes
@@ -144,7 +143,7 @@ fn drawing(counts: &Counts) -> String {
 <text x="70" y="20">Instructions of one call by connections, library <tspan fill="#05a">blue</tspan>, Rust <tspan fill="#888">grey</tspan></text>
 "##,
     );
-    for op in 0..OPERATIONS.len() {
+    for op in 0..CALLS.len() {
         panel(
             &mut svg,
             counts,

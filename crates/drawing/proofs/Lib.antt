@@ -1,0 +1,4 @@
+pub mod Splice
+pub mod Drawing
+pub mod Comparing
+pub mod Certified

@@ -1,0 +1,50 @@
+-- Parts of one list: lent and come back, and put in one after the other. Assumes nothing.
+use mathlib.Core.Path.{_≡_, sym, _∙_}
+use mathlib.Core.List.{List, _++_, append-assoc}
+use Prim.Native.Nat.{ℕ, _+_, _-_, _≤_}
+use native.Mathlib.Nat.{sub-zero}
+use native.Mathlib.Omega.{arith}
+use borrow.Rule.Slice.PartMut.{midOf, putMid, post-is}
+use lib.ListN.{length, take, drop, length-append}
+use lib.Seq.{take-at, drop-at, take-take, take-append-le, length-take-le}
+use Rattle.drawing.specs.Area.{spliced}
+
+-- a part that was lent and came back
+pub put-part : (xs ys : List ℕ) (a e : ℕ) → a ≤ e → putMid a (e - a) xs ys ≡ spliced xs a e ys
+put-part xs ys a e h = rw (post-is a e xs h, append-assoc)
+
+-- a front of xs that was lent and came back as ys
+module _ (xs ys : List ℕ) (e : ℕ) (l : length ys ≡ e) where
+  pub lent-length : e ≤ length (putMid 0 (e - 0) xs ys)
+  lent-length = rw (put-part xs ys 0 e (omega arith)) (simp length-append (omega arith))
+
+  pub lent-front : midOf 0 (e - 0) (putMid 0 (e - 0) xs ys) ≡ ys
+  lent-front = rw (put-part xs ys 0 e (omega arith), sub-zero) (take-at ys (drop e xs) e l)
+
+-- p stands before n, and the rest is as it was in d
+splice-more : (d p xs ys : List ℕ) (n e : ℕ) → length p ≡ n → n ≤ e → xs ≡ p ++ drop n d → spliced xs n e ys ≡ p ++ ys ++ drop e d
+splice-more d p xs ys n e l h q =
+    sym (put-part xs ys n e h) ∙ rw (q, take-at p (drop n d) n l, drop-at p (drop n d) n l, post-is n e d h, append-assoc)
+
+-- three parts in a row, of which the first is put in last
+pub three : (d : List ℕ) {x y z : List ℕ} (a b c : List ℕ) (i j k : ℕ)
+    → i + length a ≡ j → j + length b ≡ k → k ≤ length d
+    → x ≡ spliced d j k b → y ≡ spliced x k (k + length c) c → z ≡ spliced y i j a
+    → z ≡ take i d ++ (a ++ b ++ c) ++ drop (k + length c) d
+three d {x} {y} a b c i j k la lb room p q r =
+    let front : length (take j d) ≡ j = length-take-le j d (omega arith) in
+    let rest : List ℕ = b ++ (c ++ drop (k + length c) d) in
+    let y-is : y ≡ take j d ++ rest =
+    q ∙ splice-more d (take j d ++ b) x c k (k + length c) (simp length-append (omega arith)) (omega arith) p ∙ simp append-assoc in
+    let first : i ≤ length (take j d) = omega arith in
+    let within : i ≤ j = omega arith in
+    r ∙ rw (y-is, take-append-le i (take j d) rest first, take-take i j d within, drop-at (take j d) rest j front) (simp append-assoc)
+
+-- p stands at the front of a list
+module _ (p d xs : List ℕ) (n : ℕ) (l : length p ≡ n) (q : xs ≡ p ++ drop n d) where
+  pub front-taken : take n xs ≡ p
+  front-taken = rw q (take-at p (drop n d) n l)
+
+  -- what stands further on stands there in d
+  pub rest-is : (e : ℕ) → n ≤ e → drop e xs ≡ drop e d
+  rest-is e h = sym (post-is n e xs h) ∙ rw (q, drop-at p (drop n d) n l) (post-is n e d h)

@@ -1,0 +1,125 @@
+// Enquiring and margins on areas of bytes: the fronts are read into numbers, and what an enquiry finds is written back; the answer
+// is a number.
+ghost use mathlib.Core.Path.{_≡_};
+ghost use Rattle.numbers.specs.Numbers.{numbersOf};
+ghost use Rattle.timetable.specs.Check.{maxConnections};
+ghost use Rattle.model.specs.Notices.{noticesLength};
+ghost use Rattle.model.specs.Day.{dayOf};
+ghost use Rattle.model.specs.Operations.{enquired, margined};
+ghost use Rattle.codes.specs.Encoded.{codedMargin};
+ghost use Rattle.model.specs.Drawn.{mostGraph};
+ghost use Rattle.fronts.specs.Fronts.{lentBytes, FrontsFit};
+ghost use Rattle.enquiries.specs.Enquired.{EnquiryBytes};
+
+// An enquiry on bytes, whose fronts fit `n`, `g`, `w` and `j`.
+fn enquire_fronts(
+    file: &[u8],
+    notices: &[u8],
+    graph: &[u8],
+    work: &mut [u8],
+    journey: &mut [u8],
+    n: &mut [u16],
+    g: &mut [u16],
+    w: &mut [u16],
+    j: &mut [u16],
+    from: u16,
+    to: u16,
+    time: u16,
+) -> u64
+    requires { ⌜ FrontsFit noticesLength mostGraph (now notices) (now graph) (now n) (now g) ⌝ }
+    requires { ⌜ FrontsFit maxConnections maxConnections (now work) (now journey) (now w) (now j) ⌝ }
+    ensures { λ r.
+        ⌜ EnquiryBytes
+        (enquired (dayOf (now (file .entry))) (lentBytes (now (notices .entry)) (now (graph .entry)))
+        (numbersOf (now (work .entry))) (numbersOf (now (journey .entry))) from to time)
+        (now (work .entry)) (now (journey .entry)) r (now (work .exit)) (now (journey .exit)) ⌝ }
+{
+    fronts::read_both(notices, graph, n, g);
+    fronts::read_both(work, journey, w, j);
+    let enquired = search::enquire(file, n, g, w, j, from, to, time);
+    fronts::write_both(w, j, work, journey);
+    codes::code_arrival(enquired)
+}
+
+// An enquiry on bytes.
+pub fn enquire_bytes(
+    file: &[u8],
+    notices: &[u8],
+    graph: &[u8],
+    work: &mut [u8],
+    journey: &mut [u8],
+    from: u16,
+    to: u16,
+    time: u16,
+) -> u64
+    ensures { λ r.
+        ⌜ EnquiryBytes
+        (enquired (dayOf (now (file .entry))) (lentBytes (now (notices .entry)) (now (graph .entry)))
+        (numbersOf (now (work .entry))) (numbersOf (now (journey .entry))) from to time)
+        (now (work .entry)) (now (journey .entry)) r (now (work .exit)) (now (journey .exit)) ⌝ }
+{
+    let mut n = [0u16; model::NOTICES_LENGTH];
+    let mut g = [0u16; model::MOST_GRAPH];
+    let mut w = [0u16; timetable::MAX_CONNECTIONS];
+    let mut j = [0u16; timetable::MAX_CONNECTIONS];
+    let k = fronts::front_length(model::NOTICES_LENGTH, notices.len());
+    let m = fronts::front_length(model::MOST_GRAPH, graph.len());
+    let u = fronts::front_length(timetable::MAX_CONNECTIONS, work.len());
+    let v = fronts::front_length(timetable::MAX_CONNECTIONS, journey.len());
+    enquire_fronts(
+        file,
+        notices,
+        graph,
+        work,
+        journey,
+        &mut n[0..k],
+        &mut g[0..m],
+        &mut w[0..u],
+        &mut j[0..v],
+        from,
+        to,
+        time,
+    )
+}
+
+// A margin by bytes, whose fronts fit `n` and `g`.
+fn margin_fronts(
+    file: &[u8],
+    notices: &[u8],
+    graph: &[u8],
+    n: &mut [u16],
+    g: &mut [u16],
+    connection: u16,
+    next: u16,
+) -> i64
+    requires { ⌜ FrontsFit noticesLength mostGraph (now notices) (now graph) (now n) (now g) ⌝ }
+    ensures { λ r.
+        ⌜ r
+        ≡ codedMargin
+        (margined (dayOf (now (file .entry))) (lentBytes (now (notices .entry)) (now (graph .entry))) connection next) ⌝ }
+{
+    fronts::read_both(notices, graph, n, g);
+    codes::code_margin(search::margin(file, n, g, connection, next))
+}
+
+// A margin by bytes.
+pub fn margin_bytes(file: &[u8], notices: &[u8], graph: &[u8], connection: u16, next: u16) -> i64
+    ensures { λ r.
+        ⌜ r
+        ≡ codedMargin
+        (margined (dayOf (now (file .entry))) (lentBytes (now (notices .entry)) (now (graph .entry))) connection next) ⌝ }
+{
+    let mut n = [0u16; model::NOTICES_LENGTH];
+    let mut g = [0u16; model::MOST_GRAPH];
+    let k = fronts::front_length(model::NOTICES_LENGTH, notices.len());
+    let m = fronts::front_length(model::MOST_GRAPH, graph.len());
+    margin_fronts(
+        file,
+        notices,
+        graph,
+        &mut n[0..k],
+        &mut g[0..m],
+        connection,
+        next,
+    )
+}

@@ -1,0 +1,32 @@
+-- `lines::write_refusal` meets its contract: a line of two numbers. Assumes nothing.
+use native.Mathlib.Omega.{arith}
+use borrow.Author.Needs.{needs}
+use Rattle.lines.specs.Lines.{refusalLabel, placeLabel, refusalLine}
+use Rattle.lines.proofs.Lengths.{pair-room}
+use Rattle.lines.proofs.write_refusal.Statement.{statement}
+use Rattle.lines.proofs.write_refusal.Tie as tie
+
+slice-aggregate-write-pair : tie.Need-slice-aggregate-write-pair
+slice-aggregate-write-pair c = search needs
+
+slice-aggregate-write-pair-2 : tie.Need-slice-aggregate-write-pair-2
+slice-aggregate-write-pair-2 c = search needs
+
+write-pair-requires : tie.Need-write-pair-requires
+write-pair-requires c κs =
+    let b = c .before .before .before .before in
+    let n = b .args .number in
+    let m = b .args .place in
+    let r = pair-room refusalLabel n placeLabel m (omega (arith, b .fits .number)) (omega (arith, b .fits .place)) (omega arith) in
+    omega (arith, r, b .pre)
+
+same-length : tie.Need-same-length
+same-length c = search needs
+
+returns : tie.Need-returns
+unfolding refusalLine
+returns c = c .before .before .write-pair .ensures
+
+pub write-refusal-spec : {M : Type 1} → statement M
+write-refusal-spec =
+    tie.close (tie.spec slice-aggregate-write-pair slice-aggregate-write-pair-2 write-pair-requires same-length returns)

@@ -1,0 +1,110 @@
+-- The answer lines, each with the newline that ends it. Assumes nothing.
+use mathlib.Core.List.{List, [], _∷_, _++_}
+use Prim.Native.Nat.{ℕ, suc}
+use lib.IntN.{ℤ, pos, negsuc}
+use Rattle.decimals.specs.Bytes.{newline, space}
+use Rattle.decimals.specs.Decimal.{decimalOf}
+
+-- "stops "
+abbrev pub stopsLabel : List ℕ
+stopsLabel = 115 ∷ 116 ∷ 111 ∷ 112 ∷ 115 ∷ 32 ∷ []
+
+-- " rides "
+abbrev pub connectionsLabel : List ℕ
+connectionsLabel = 32 ∷ 114 ∷ 105 ∷ 100 ∷ 101 ∷ 115 ∷ 32 ∷ []
+
+-- "arrives "
+abbrev pub arrivesLabel : List ℕ
+arrivesLabel = 97 ∷ 114 ∷ 114 ∷ 105 ∷ 118 ∷ 101 ∷ 115 ∷ 32 ∷ []
+
+-- " by"
+abbrev pub byLabel : List ℕ
+byLabel = 32 ∷ 98 ∷ 121 ∷ []
+
+-- "posted "
+abbrev pub postedLabel : List ℕ
+postedLabel = 112 ∷ 111 ∷ 115 ∷ 116 ∷ 101 ∷ 100 ∷ 32 ∷ []
+
+-- "withdrawn "
+abbrev pub withdrawnLabel : List ℕ
+withdrawnLabel = 119 ∷ 105 ∷ 116 ∷ 104 ∷ 100 ∷ 114 ∷ 97 ∷ 119 ∷ 110 ∷ 32 ∷ []
+
+-- "no "
+abbrev pub refusalLabel : List ℕ
+refusalLabel = 110 ∷ 111 ∷ 32 ∷ []
+
+-- " at "
+abbrev pub placeLabel : List ℕ
+placeLabel = 32 ∷ 97 ∷ 116 ∷ 32 ∷ []
+
+-- "margin "
+abbrev pub marginLabel : List ℕ
+marginLabel = 109 ∷ 97 ∷ 114 ∷ 103 ∷ 105 ∷ 110 ∷ 32 ∷ []
+
+-- "margin -"
+abbrev pub minusLabel : List ℕ
+minusLabel = 109 ∷ 97 ∷ 114 ∷ 103 ∷ 105 ∷ 110 ∷ 32 ∷ 45 ∷ []
+
+-- how a line ends
+abbrev pub lineEnd : List ℕ
+lineEnd = newline ∷ []
+
+-- a label and the number after it
+abbrev pub labelled : List ℕ → ℕ → List ℕ
+labelled label n = label ++ decimalOf n
+
+-- a line of one number with its label
+abbrev pub numberLine : List ℕ → ℕ → List ℕ
+numberLine label n = labelled label n ++ lineEnd
+
+-- a line of two numbers, each with its label
+abbrev pub pairLine : List ℕ → ℕ → List ℕ → ℕ → List ℕ
+pairLine label n second m = labelled label n ++ labelled second m ++ lineEnd
+
+-- the connections of a journey, each after a space
+unfoldable pub journeyText : List ℕ → List ℕ
+journeyText [] = []
+journeyText (c ∷ cs) = labelled (space ∷ []) c ++ journeyText cs
+
+-- stops 3 rides 5
+unfoldable pub countsLine : ℕ → ℕ → List ℕ
+countsLine stops connections = pairLine stopsLabel stops connectionsLabel connections
+
+-- arrives 640 by 0 1
+unfoldable pub arrivesLine : ℕ → List ℕ → List ℕ
+arrivesLine time journey = labelled arrivesLabel time ++ byLabel ++ journeyText journey ++ lineEnd
+
+-- posted 7
+unfoldable pub postedLine : ℕ → List ℕ
+postedLine = numberLine postedLabel
+
+-- withdrawn 7
+unfoldable pub withdrawnLine : ℕ → List ℕ
+withdrawnLine = numberLine withdrawnLabel
+
+-- no 30 at 0
+unfoldable pub refusalLine : ℕ → ℕ → List ℕ
+refusalLine number place = pairLine refusalLabel number placeLabel place
+
+-- margin 4, margin -1
+unfoldable pub marginLine : ℤ → List ℕ
+marginLine (pos n) = numberLine marginLabel n
+marginLine (negsuc n) = numberLine minusLabel (suc n)
+
+-- an answer
+pub data Line : Type 0 where
+  counts : ℕ → ℕ → Line
+  arrives : ℕ → List ℕ → Line
+  posted : ℕ → Line
+  withdrawn : ℕ → Line
+  refusal : ℕ → ℕ → Line
+  margin : ℤ → Line
+
+-- the line of an answer
+unfoldable pub textOf : Line → List ℕ
+textOf (counts stops connections) = countsLine stops connections
+textOf (arrives time journey) = arrivesLine time journey
+textOf (posted number) = postedLine number
+textOf (withdrawn number) = withdrawnLine number
+textOf (refusal number place) = refusalLine number place
+textOf (margin minutes) = marginLine minutes

@@ -1,0 +1,4 @@
+pub mod Copying
+pub mod Heads
+pub mod Passing
+pub mod Awaiting

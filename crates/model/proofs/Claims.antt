@@ -1,0 +1,35 @@
+-- The claims that a reader looks for, by name; each is proved in the module that its line names. Assumes nothing.
+
+-- The file. The check accepts exactly the files of document 01, and each refusal has its exact condition and place.
+pub use Rattle.timetable.proofs.Accepted.{accepted-iff}
+pub use Rattle.timetable.proofs.Refusals.{refused-iff}
+-- The notice area. What is written is read back; refusal 23 and its place; entering and striking keep the rows in order.
+pub use Rattle.model.proofs.Areas.{rows-area, past-area}
+pub use Rattle.model.proofs.Rows.{area-right, area-read, rows-checked, rows-place}
+pub use Rattle.model.proofs.Entering.{entered-formed, struck-formed, stands-iff, stands-entered, stands-struck, stands-other}
+-- Times. The primary delay is the largest of a connection's notices; a late connection passes on what the time at the stop leaves; the
+-- network is sound, and no time is after 5,759.
+pub use Rattle.model.proofs.Times.{primary-among, primary-largest, departure-own, departure-after, travel-kept, on-time, on-time-arrival, departure-most, network-sound}
+-- The graph. Each entry is the one that document 01's sentence says; the area's length; every arc leads forward; journeys are the
+-- routes over the arcs.
+pub use Rattle.model.proofs.Boards.{waiting-listed, transfer-listed, first-listed}
+pub use Rattle.model.proofs.GraphArea.{length-graph}
+pub use Rattle.model.proofs.Arcs.{arcs-forward}
+pub use Rattle.model.proofs.Routes.{route-iff}
+-- Journeys. Each predecessor is the one that document 01 says; the journey is valid, none arrives earlier, and it is the first in the
+-- order; there is none exactly if the predecessors lead nowhere; a journey has at most as many connections as there are.
+pub use Rattle.model.proofs.Journeys.{predecessor-means, reached-iff, journey-best, best-only, nowhere-iff, journey-short, at-most}
+-- The margin. 0 exactly if just made, -1 exactly if missed by a minute, and its range.
+pub use Rattle.model.proofs.Margin.{margin-zero, margin-missed, margin-range}
+-- The refusals. In which order the parts of an operation decide, what it gives that they pass, and which numbers they refuse with.
+pub use Rattle.model.proofs.Parts.{call-chain, call-passed, avoids, asked-number}
+pub use Rattle.model.proofs.Ready.{ready-by}
+-- Demand 2. What the answer of an enquiry means, whatever comes in.
+pub use Rattle.model.proofs.Enquiries.{enquiry-means}
+-- Demand 3. The claim about whole runs.
+pub use Rattle.model.proofs.Runs.{step, whole-runs, enquiry-refusals}
+-- For C: an operation on the fronts of its areas gives what it gives on the whole areas.
+pub use Rattle.model.proofs.Fronts.{front-built, front-changed, front-margined, front-enquired}
+-- Document 01's starred instances, and cases worked by hand.
+pub use Rattle.model.proofs.Instances.{instances}
+pub use Rattle.model.proofs.Cases.{cases-right}

@@ -1,0 +1,28 @@
+-- What a whole run leaves: that of the definition, and the claim about whole runs. Assumes nothing.
+use mathlib.Core.Path.{_≡_}
+use mathlib.Core.List.{List, _++_}
+use Prim.Native.Nat.{ℕ}
+use lib.ListN.{length, drop}
+use Rattle.timetable.specs.Answers.{Answer, accepted}
+use Rattle.timetable.specs.Check.{Counts}
+use Rattle.model.specs.Day.{Day, Areas}
+use Rattle.model.specs.Runs.{Run, runOf, Claim}
+use Rattle.runs.specs.Calls.{callsWorked, toldNumbers}
+
+-- the run of the calls that are worked
+abbrev pub wholeRun : Day → Areas → List ℕ → List ℕ → Run
+wholeRun day areas₀ calls answers₀ = runOf day areas₀ (callsWorked calls answers₀)
+
+pub record Whole (day : Day) (areas₀ : Areas) (calls answers₀ : List ℕ) (building : Answer Counts) (areas : Areas)
+    (answers : List ℕ) : Type 0 where
+  -- the building's answer
+  pub building-is : building ≡ wholeRun day areas₀ calls answers₀ .building
+  -- the areas
+  pub areas-are : areas ≡ wholeRun day areas₀ calls answers₀ .areas
+  -- the answers; what lies past them is as it was
+  pub answers-are : answers
+      ≡ toldNumbers (wholeRun day areas₀ calls answers₀ .answers)
+      ++ drop (length (toldNumbers (wholeRun day areas₀ calls answers₀ .answers))) answers₀
+  -- where the building is accepted, the claim about whole runs
+  pub claim : (counts : Counts) → building ≡ accepted counts
+      → Claim day areas₀ (callsWorked calls answers₀) (wholeRun day areas₀ calls answers₀)

@@ -1,0 +1,69 @@
+// Building, posting and withdrawing on areas of bytes: the fronts are read into numbers, the numbers worked on and written back; the
+// answer is a number.
+ghost use mathlib.Core.Path.{_≡_};
+ghost use Rattle.model.specs.Notices.{noticesLength};
+ghost use Rattle.model.specs.Day.{dayOf, lent};
+ghost use Rattle.model.specs.Drawn.{mostGraph};
+ghost use Rattle.fronts.specs.Fronts.{lentBytes, FrontsFit};
+ghost use Rattle.updates.specs.Updated.{codedOutcome, updated, OutcomeBytes};
+
+// What is done to both areas.
+pub enum Update {
+    Build,
+    // number, connection, delay
+    Post(u16, u16, u16),
+    // number
+    Withdraw(u16),
+}
+
+// An update of numbers.
+fn update_numbers(file: &[u8], notices: &mut [u16], graph: &mut [u16], update: Update) -> u64
+    ensures { λ r.
+        ⌜ codedOutcome r (lent (now (notices .exit)) (now (graph .exit)))
+        ≡ updated (dayOf (now (file .entry))) (lent (now (notices .entry)) (now (graph .entry))) update ⌝ }
+{
+    match update {
+        Update::Build => codes::code_counts(graph::build(file, notices, graph)),
+        Update::Post(number, connection, delay) => {
+            codes::code_noted(graph::post(file, notices, graph, number, connection, delay))
+        }
+        Update::Withdraw(number) => {
+            codes::code_noted(graph::withdraw(file, notices, graph, number))
+        }
+    }
+}
+
+// An update of bytes, whose fronts fit `n` and `g`.
+fn update_fronts(
+    file: &[u8],
+    notices: &mut [u8],
+    graph: &mut [u8],
+    n: &mut [u16],
+    g: &mut [u16],
+    update: Update,
+) -> u64
+    requires { ⌜ FrontsFit noticesLength mostGraph (now notices) (now graph) (now n) (now g) ⌝ }
+    ensures { λ r.
+        ⌜ OutcomeBytes
+        (updated (dayOf (now (file .entry))) (lentBytes (now (notices .entry)) (now (graph .entry))) update)
+        (now (notices .entry)) (now (graph .entry)) r (now (notices .exit)) (now (graph .exit)) ⌝ }
+{
+    fronts::read_both(notices, graph, n, g);
+    let code = update_numbers(file, n, g, update);
+    fronts::write_both(n, g, notices, graph);
+    code
+}
+
+// An update of bytes.
+pub fn update_bytes(file: &[u8], notices: &mut [u8], graph: &mut [u8], update: Update) -> u64
+    ensures { λ r.
+        ⌜ OutcomeBytes
+        (updated (dayOf (now (file .entry))) (lentBytes (now (notices .entry)) (now (graph .entry))) update)
+        (now (notices .entry)) (now (graph .entry)) r (now (notices .exit)) (now (graph .exit)) ⌝ }
+{
+    let mut n = [0u16; model::NOTICES_LENGTH];
+    let mut g = [0u16; model::MOST_GRAPH];
+    let k = fronts::front_length(model::NOTICES_LENGTH, notices.len());
+    let m = fronts::front_length(model::MOST_GRAPH, graph.len());
+    update_fronts(file, notices, graph, &mut n[0..k], &mut g[0..m], update)
+}
