@@ -1,15 +1,24 @@
 /* Olovrant: the library's functions for C.
  *
- * A slice is a pointer and a length in bytes. `file` is a timetable file, and each of its bytes counts. Every other slice is an
- * area of numbers of 16 bits, low byte first: it may start at any address and have any length, and an odd last byte is
- * neither counted nor changed. Areas must not overlap each other or the file, and no pointer is null, also where the length is 0:
- * that is the caller's duty. Whatever the bytes hold, each function answers or refuses; it reads and writes nothing outside the
- * slices. A connection is called a ride in the parameters' names.
+ * Slices. A slice is a pointer and a length in bytes. `file` is a timetable file, and each of its bytes counts. Every other slice is
+ * an area of numbers of 16 bits, low byte first: it may start at any address and have any length, and an odd last byte is neither
+ * counted nor changed. A null pointer with length 0 is an empty slice. Areas must not overlap each other or the file: that is
+ * the caller's duty. Whatever the bytes hold, each function answers or refuses; it reads and writes nothing outside the slices.
+ * A connection is called a ride in the names here.
  *
- * Lengths an area needs (for S stops and C connections): notices 601 numbers, graph 4C + S, work C, journey C; a shorter one is
- * refused. Numbers past these lengths are never changed.
+ * Refusals. A refused call writes nothing; refusal 30 alone fills `work`, as an answer does. An accepted call writes no more than the
+ * stated length of an area (the sizes below), and of `journey` no more than the journey has.
  *
- * Every answer is number + 65536 * value. Number 0 is accepted; otherwise it is the refusal's number, and value is its place.
+ * Numbers. Parameters are of 16 bits, and C cuts a larger argument down without a word: check before the call that a number is at
+ * most 65535.
+ *
+ * Threads. A call uses its arguments and its stack, and nothing else: no state is kept and no memory allocated. Calls on different
+ * areas may run at the same time. Calls that share an area that one of them writes need the caller's lock; a shared file and
+ * areas that are only read need none.
+ *
+ * Stack. A call needs at most TTG_STACK_BYTES of stack. tests/panel/stack.c measures it with the largest timetable.
+ *
+ * Linking. The library needs memcpy and memset, and nothing else.
  */
 #ifndef TTG_H
 #define TTG_H
@@ -21,29 +30,93 @@
 extern "C" {
 #endif
 
-/* Checks a timetable file. Accepted: value is S + 65536 * C. */
+/* The most stops and rides of a timetable. */
+#define TTG_MOST_STOPS 500
+#define TTG_MOST_RIDES 2000
+
+/* Sizes in bytes. A shorter area is refused; in a longer one nothing past these sizes is changed. */
+#define TTG_FILE_BYTES(stops, rides) (9 + 2 * (size_t)(stops) + 10 * (size_t)(rides))
+#define TTG_NOTICES_BYTES ((size_t)1202)
+#define TTG_GRAPH_BYTES(stops, rides) (2 * (4 * (size_t)(rides) + (size_t)(stops)))
+#define TTG_WORK_BYTES(rides) (2 * (size_t)(rides))
+#define TTG_JOURNEY_BYTES(rides) (2 * (size_t)(rides))
+#define TTG_STACK_BYTES ((size_t)65536)
+
+/* No ride: in `work`, a ride that no journey ends with; in `graph`, no further departure. */
+#define TTG_NONE 65535
+
+/* Every answer is number + 65536 * value. The number is TTG_ACCEPTED, or the refusal's with its place for a value. */
+#define TTG_NUMBER(answer) ((unsigned)((uint64_t)(answer) % 65536))
+#define TTG_VALUE(answer) ((uint64_t)(answer) / 65536)
+#define TTG_PLACE(answer) ((unsigned)TTG_VALUE(answer))
+
+/* The values of accepted calls: of a check or a build; of a posting or a withdrawal; of an enquiry; of a margin. */
+#define TTG_STOPS(answer) ((unsigned)(TTG_VALUE(answer) % 65536))
+#define TTG_RIDES(answer) ((unsigned)(TTG_VALUE(answer) / 65536))
+#define TTG_NOTICE(answer) ((unsigned)TTG_VALUE(answer))
+#define TTG_ARRIVAL(answer) ((unsigned)(TTG_VALUE(answer) % 65536))
+#define TTG_COUNT(answer) ((unsigned)(TTG_VALUE(answer) / 65536))
+#define TTG_MINUTES(answer) ((int)((int64_t)(answer) / 65536))
+
+/* The number at place `index` of an area. */
+#define TTG_AT(area, index) ((unsigned)((area)[2 * (size_t)(index)] + 256 * (area)[2 * (size_t)(index) + 1]))
+
+/* The numbers of answers. */
+enum ttg_number {
+    TTG_ACCEPTED = 0,
+    TTG_REFUSED_SHORT_FILE = 1,       /* the file has fewer than 9 bytes */
+    TTG_REFUSED_MARK = 2,             /* it does not start with TTG */
+    TTG_REFUSED_VERSION = 3,          /* its version */
+    TTG_REFUSED_STOP_COUNT = 4,       /* its stop count */
+    TTG_REFUSED_RIDE_COUNT = 5,       /* its ride count */
+    TTG_REFUSED_LENGTH = 6,           /* its length is not the one of its counts */
+    TTG_REFUSED_CHANGE_MINUTES = 7,   /* change minutes above 60; place: the stop */
+    TTG_REFUSED_RIDE_STOPS = 8,       /* a ride's stops; place, to 11: the ride */
+    TTG_REFUSED_TRIP = 9,             /* its trip */
+    TTG_REFUSED_TIMES = 10,           /* its times */
+    TTG_REFUSED_JOIN = 11,            /* it does not join the one before it */
+    TTG_REFUSED_NUMBER_0 = 12,        /* notice number 0 */
+    TTG_REFUSED_RIDE = 13,            /* no such ride */
+    TTG_REFUSED_DELAY = 14,           /* a delay outside 1 to 1440 */
+    TTG_REFUSED_STOP = 15,            /* no such stop */
+    TTG_REFUSED_TIME = 16,            /* a time after 5759 */
+    TTG_REFUSED_NOT_MET = 17,         /* the two rides of a margin do not meet at a stop */
+    TTG_REFUSED_COMMAND = 18,         /* the desk program's alone: no function answers it */
+    TTG_REFUSED_SHORT_NOTICES = 21,   /* `notices` is too short */
+    TTG_REFUSED_SHORT_GRAPH = 22,     /* `graph` is too short */
+    TTG_REFUSED_NOTICES = 23,         /* `notices` breaks its rules; place: the first wrong row, from 1, or 0 for the count */
+    TTG_REFUSED_GRAPH = 24,           /* `graph` is not that of this timetable and these notices */
+    TTG_REFUSED_STANDS = 25,          /* a notice of this number stands already */
+    TTG_REFUSED_FULL = 26,            /* 200 notices stand */
+    TTG_REFUSED_STANDS_NOT = 27,      /* no notice of this number stands */
+    TTG_REFUSED_SHORT_WORK = 28,      /* `work` is too short */
+    TTG_REFUSED_SHORT_JOURNEY = 29,   /* `journey` is too short */
+    TTG_REFUSED_NO_JOURNEY = 30       /* there is no journey */
+};
+
+/* Checks a timetable file. Accepted: TTG_STOPS, TTG_RIDES. */
 uint64_t ttg_check(const uint8_t *file, size_t file_len);
 
-/* Zeroes the notice area and fills the graph of the timetable without notices. Accepted: value is S + 65536 * C. */
+/* Zeroes the notice area and fills the graph of the timetable without notices. Accepted: TTG_STOPS, TTG_RIDES. */
 uint64_t ttg_build(const uint8_t *file, size_t file_len, uint8_t *notices, size_t notices_len, uint8_t *graph, size_t graph_len);
 
-/* Posts notice `number`: connection `ride` is `delay` minutes late. Accepted: value is the notice number. */
+/* Posts notice `number`: ride `ride` is `delay` minutes late. Accepted: TTG_NOTICE. */
 uint64_t ttg_post(const uint8_t *file, size_t file_len, uint8_t *notices, size_t notices_len, uint8_t *graph, size_t graph_len,
                   uint16_t number, uint16_t ride, uint16_t delay);
 
-/* Withdraws notice `number`. Accepted: value is the notice number. */
+/* Withdraws notice `number`. Accepted: TTG_NOTICE. */
 uint64_t ttg_withdraw(const uint8_t *file, size_t file_len, uint8_t *notices, size_t notices_len, uint8_t *graph, size_t graph_len,
                       uint16_t number);
 
-/* Finds the journey from stop `from` to stop `to` at `time` that arrives first. Accepted: value is the arrival + 65536 * how many
- * connections; `journey` begins with these connections in the order of travel, `work` with the predecessor of each connection.
- * Refusal 30 (no journey) fills `work` too. */
+/* Finds the journey from stop `from` to stop `to` at `time` that arrives first. Accepted: TTG_ARRIVAL, TTG_COUNT; `journey` begins with
+ * so many rides in the order of travel, `work` with the predecessor of each ride: itself if it can be the first, TTG_NONE if no
+ * journey ends with it. Refusal 30 (no journey) fills `work` too. */
 uint64_t ttg_enquire(const uint8_t *file, size_t file_len, const uint8_t *notices, size_t notices_len, const uint8_t *graph,
                      size_t graph_len, uint8_t *work, size_t work_len, uint8_t *journey, size_t journey_len, uint16_t from,
                      uint16_t to, uint16_t time);
 
-/* The margin of a change from connection `ride` to connection `next`. Accepted: value is the signed minutes; 0 is just made, -1 is
- * missed by a minute. The answer is negative only where the margin is. */
+/* The margin of a change from ride `ride` to ride `next`. Accepted: TTG_MINUTES, signed: 0 is just made, -1 is missed by a minute. The
+ * answer is negative only where the margin is. */
 int64_t ttg_margin(const uint8_t *file, size_t file_len, const uint8_t *notices, size_t notices_len, const uint8_t *graph,
                    size_t graph_len, uint16_t ride, uint16_t next);
 

@@ -1,19 +1,20 @@
 #!/usr/bin/env bash
-# Instructions of each operation by callgrind: counts.sh NOTICES [C..], without C for 125 to 2000. Prints a line
-# 'C NOTICES SIDE OPERATION INSTRUCTIONS' for each. The difference of two repeat counts gives one call's cost. Large `memset`s
-# and `memcpy`s are kept from their `rep` forms, which callgrind counts byte by byte. Before each posting and withdrawal both
-# areas are copied back; that cost, `restore`, is taken off.
+# Instructions of each operation by callgrind: counts.sh SHAPE NOTICES [C..], without C for 125 to 2000. SHAPE is `day`, or `dense` for
+# all departures in one minute. Prints a line 'C NOTICES SIDE OPERATION INSTRUCTIONS' for each. The difference of two repeat counts
+# gives one call's cost. Large `memset`s and `memcpy`s are kept from their `rep` forms, which callgrind counts byte by byte. Before
+# each posting and withdrawal both areas are copied back; that cost, `restore`, is taken off.
 set -euo pipefail
 cd "$(dirname "$0")/../.."
 export GLIBC_TUNABLES=glibc.cpu.x86_rep_stosb_threshold=100000000:glibc.cpu.x86_rep_movsb_threshold=100000000
-notices=$1
-shift
+shape=$1
+notices=$2
+shift 2
 sizes=${*:-125 250 500 1000 2000}
 bench=target/compare/release/bench
 operations=$($bench operations)
 
 run() {
-    valgrind --tool=callgrind --callgrind-out-file=/dev/null $bench one "$1" "$c" "$notices" "$side" "$2" 2>&1 |
+    valgrind --tool=callgrind --callgrind-out-file=/dev/null $bench one "$shape" "$1" "$c" "$notices" "$side" "$2" 2>&1 |
         grep -oP 'Collected : \K\d+'
 }
 

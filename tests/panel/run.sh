@@ -1,24 +1,30 @@
 #!/bin/sh
-# Tests libpanel.a from C. panel.c counts for itself; what vectors.c prints on vectors.txt is compared with vectors.expected, and
-# each line counts. Argument: the folder of libpanel.a (default target/staticlib). The last line is 'N passed, M failed' of both.
+# Tests libpanel.a from C. panel.c and stack.c count for themselves; what vectors.c prints on each vectors/*.txt is compared with its
+# .expected, and each line counts; what the examples print, the archive's symbols and the commands of docs/PANEL.md count too.
+# Argument: the folder of libpanel.a (default target/staticlib). The last line is 'N passed, M failed' of all.
 set -eu
 here=$(cd "$(dirname "$0")" && pwd)
-top=$here/../..
-lib=${1:-$top/target/staticlib}/libpanel.a
+top=$(cd "$here/../.." && pwd)
+lib=${1:-$top/target/staticlib}
+lib=$(cd "$lib" && pwd)/libpanel.a
 tmp=$(mktemp -d)
 trap 'rm -rf "$tmp"' EXIT
-flags='-std=c11 -Wall -Wextra -Werror -O2'
+strict='-Wall -Wextra -Werror -O2'
 sanitize='-fsanitize=address,undefined -fno-sanitize-recover=undefined'
 
 # The sanitizers only where a program can be linked and run with them.
 echo 'int main(void) { return 0; }' >"$tmp/try.c"
 if ! { gcc $sanitize "$tmp/try.c" -o "$tmp/try" && "$tmp/try"; } >/dev/null 2>&1; then sanitize=; fi
 
+# compile NAME SOURCE FLAGS..
 compile() {
-    gcc $flags $sanitize -I "$top/include" "$here/$1.c" "$lib" -lpthread -ldl -lm -o "$tmp/$1"
+    name=$1
+    source=$2
+    shift 2
+    gcc $strict "$@" -I "$top/include" "$source" "$lib" -lpthread -o "$tmp/$name"
 }
 
-# Compares stored lines with those printed, each a test, and tells the first ten differences with their headings.
+# Compares stored lines with those printed, each but a heading a test, and tells the first ten differences with their headings.
 compare() {
     awk '
         FNR == NR { stored[FNR] = $0; lines = FNR; next }
@@ -28,25 +34,135 @@ compare() {
                 want = (i in stored) ? "\"" stored[i] "\"" : "nothing"
                 got = (i in printed) ? "\"" printed[i] "\"" : "nothing"
                 if (want ~ /^"#/) heading = stored[i]
-                if (want == got) passed++
+                if (want == got) passed += want !~ /^"#/
                 else if (++failed <= 10) print "line " i " under \"" heading "\": printed " got ", stored " want
             }
             print passed + 0 " passed, " failed + 0 " failed"
         }' "$1" "$2"
 }
 
-compile panel
-compile vectors
-"$tmp/panel" >"$tmp/panel.log" 2>&1 || true
-"$tmp/vectors" <"$here/vectors.txt" >"$tmp/printed" 2>&1 || echo "vectors ended with status $?" >>"$tmp/printed"
-compare "$here/vectors.expected" "$tmp/printed" >"$tmp/vectors.log"
+# The example with these arguments: what it prints, on either stream, and its status.
+example() {
+    status=0
+    (cd "$top/example" && "$tmp/example" "$@") >"$tmp/said" 2>&1 || status=$?
+    echo "$(cat "$tmp/said") ($status)"
+}
 
-# A test whose last line does not count has failed.
+# The indented block number $3 under the heading $2 of page $1. A blank line inside a block belongs to it.
+block() {
+    awk -v heading="## $2" -v wanted="$3" '
+        /^## / { under = $0 == heading; count = 0; inside = 0; blank = ""; next }
+        under && /^    / {
+            if (!inside) count++
+            if (count == wanted) print blank substr($0, 5)
+            inside = 1
+            blank = ""
+            next
+        }
+        under && inside && /^$/ { blank = blank "\n"; next }
+        { inside = 0; blank = "" }' "$top/$1"
+}
+
+# Runs a block of commands as written, from the top, and keeps what it prints.
+follow() {
+    block docs/PANEL.md "$1" 1 >"$tmp/commands"
+    test -s "$tmp/commands" || echo "no commands under $1"
+    (cd "$top" && sh -e "$tmp/commands") 2>&1 || echo "the commands under $1 ended with status $?"
+}
+
+# README.md's example as a program that reads a file first.
+{
+    printf '%s\n' '#include <stdio.h>'
+    block README.md 'From C' 1 | sed '/^uint64_t/,$d'
+    printf '%s\n' 'static uint8_t file[TTG_FILE_BYTES(500, 2000) + 1];' 'int main(void)' '{'
+    printf '%s\n' 'size_t len = fread(file, 1, sizeof file, stdin);'
+    block README.md 'From C' 1 | sed -n '/^uint64_t/,$p'
+    printf '%s\n' '}'
+} >"$tmp/readme.c"
+
+compile panel "$here/panel.c" -std=c11 $sanitize
+compile vectors "$here/vectors.c" -std=c11 $sanitize
+compile stack "$here/stack.c" -std=c11
+compile example "$top/example/panel.c" -std=c99 -pedantic $sanitize
+compile readme "$tmp/readme.c" -std=c99 -pedantic $sanitize
+
+# The header and the example as C++ too, only where there is a compiler for it.
+if command -v g++ >/dev/null; then
+    g++ $strict -x c++ -I "$top/include" "$top/example/panel.c" -x none "$lib" -o "$tmp/plus"
+else
+    cp "$tmp/example" "$tmp/plus"
+fi
+
+"$tmp/panel" >"$tmp/panel.log" 2>&1 || true
+"$tmp/stack" >"$tmp/stack.log" 2>&1 || true
+for part in "$here"/vectors/*.txt; do
+    "$tmp/vectors" <"$part" 2>&1 || echo "vectors ended with status $?"
+done >"$tmp/printed"
+cat "$here"/vectors/*.expected >"$tmp/stored"
+compare "$tmp/stored" "$tmp/printed" >"$tmp/vectors.log"
+
+cat >"$tmp/stored" <<'STORED'
+arrives 640 by 0 1 (0)
+arrives 595 by (0)
+no 30 at 0 (1)
+no 15 at 0 (1)
+no 2 at 0 (1)
+usage: panel FILE FROM TO TIME (2)
+usage: panel FILE FROM TO TIME (2)
+panel: cannot read missing: No such file or directory (2)
+panel: cannot read .: Is a directory (2)
+panel: 65536 is no number of 0 to 65535 (2)
+panel: -1 is no number of 0 to 65535 (2)
+panel: 6x is no number of 0 to 65535 (2)
+panel:  is no number of 0 to 65535 (2)
+arrives 620 by 0
+arrives 642
+refused with 1 at 0
+STORED
+{
+    example day.ttg 0 2 595
+    example day.ttg 0 0 595
+    example day.ttg 0 2 607
+    example day.ttg 0 65535 595
+    example panel.c 0 2 595
+    example
+    example day.ttg 0 2 595 1
+    example missing 0 2 595
+    example . 0 2 595
+    example day.ttg 0 2 65536
+    example day.ttg 0 -1 595
+    example day.ttg 6x 2 595
+    example day.ttg '' 2 595
+    (cd "$top/example" && "$tmp/plus" day.ttg 0 1 595)
+    "$tmp/readme" <"$top/example/day.ttg"
+    "$tmp/readme" </dev/null
+} >"$tmp/printed" 2>&1
+compare "$tmp/stored" "$tmp/printed" >"$tmp/example.log"
+
+# What the archive needs, what it exports, and any data of its own: memcpy and memset, the functions of ttg.h, and none.
+{
+    printf 'needs %s\n' memcpy memset
+    grep -o 'ttg_[a-z]*(' "$top/include/ttg.h" | sort -u | sed 's/^/exports /; s/($//'
+} >"$tmp/stored"
+{
+    nm -u "$lib" | awk '$1 == "U" { print "needs " $2 }' | sort -u
+    nm -g --defined-only "$lib" | awk 'NF == 3 { print "exports " $3 }' | sort -u
+    nm "$lib" | awk '$2 ~ /^[bBcCdDgGsS]$/ { print "data " $3 }'
+} >"$tmp/printed"
+compare "$tmp/stored" "$tmp/printed" >"$tmp/symbols.log"
+
+# The commands print last what the next block says; those that measure the stack count for themselves.
+block docs/PANEL.md 'Build and link' 2 >"$tmp/stored"
+follow 'Build and link' | tail -n "$(wc -l <"$tmp/stored")" >"$tmp/printed"
+compare "$tmp/stored" "$tmp/printed" >"$tmp/page.log"
+follow Stack >"$tmp/measured.log"
+
+# A test whose last line does not count has failed, and so has one that counts nothing.
 passed=0
 failed=0
-for name in panel vectors; do
+for name in panel stack vectors example symbols page measured; do
     sed "s/^/$name: /" "$tmp/$name.log"
-    counts=$(tail -n 1 "$tmp/$name.log" | grep -E '^[0-9]+ passed, [0-9]+ failed$' || echo '0 passed, 1 failed')
+    counts=$(tail -n 1 "$tmp/$name.log" | grep -E '^[1-9][0-9]* passed, [0-9]+ failed$' || echo '0 passed, 1 failed')
     passed=$((passed + ${counts%% *}))
     counts=${counts#*, }
     failed=$((failed + ${counts%% *}))

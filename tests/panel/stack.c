@@ -1,4 +1,6 @@
-/* How many bytes of stack each call needs: each is made on a thread whose stack was painted before. Prints a line a call. */
+/* How many bytes of stack each call needs, with the largest timetable and 200 notices: each is made on a thread whose stack was painted
+ * before. Prints a line a call, and counts whether the call was accepted and needs no more than TTG_STACK_BYTES. */
+#define _DEFAULT_SOURCE
 #include <pthread.h>
 #include <stdint.h>
 #include <stdio.h>
@@ -8,11 +10,15 @@
 #include "ttg.h"
 
 #define ROOM (1 << 20)
-#define STOPS 500
-#define RIDES 2000
+#define STOPS TTG_MOST_STOPS
+#define RIDES TTG_MOST_RIDES
+#define NOTICES 200
 
-static uint8_t file[9 + 2 * STOPS + 10 * RIDES];
-static uint8_t notices[2 * 601], graph[2 * (4 * RIDES + STOPS)], work[2 * RIDES], journey[2 * RIDES];
+static uint8_t file[TTG_FILE_BYTES(STOPS, RIDES)], notices[TTG_NOTICES_BYTES], graph[TTG_GRAPH_BYTES(STOPS, RIDES)];
+static uint8_t work[TTG_WORK_BYTES(RIDES)], journey[TTG_JOURNEY_BYTES(RIDES)];
+static uint64_t answer; /* of the last call */
+
+#define BOTH file, sizeof file, notices, sizeof notices, graph, sizeof graph
 
 static void put(size_t at, unsigned value)
 {
@@ -37,16 +43,12 @@ static void make_file(void)
 }
 
 static void *nothing(void *unused) { return unused; }
-static void *check(void *unused) { ttg_check(file, sizeof file); return unused; }
-static void *build(void *unused) { ttg_build(file, sizeof file, notices, sizeof notices, graph, sizeof graph); return unused; }
-static void *post(void *unused) { ttg_post(file, sizeof file, notices, sizeof notices, graph, sizeof graph, 7, 1, 10); return unused; }
-static void *withdraw(void *unused) { ttg_withdraw(file, sizeof file, notices, sizeof notices, graph, sizeof graph, 7); return unused; }
-static void *enquire(void *unused)
-{
-    ttg_enquire(file, sizeof file, notices, sizeof notices, graph, sizeof graph, work, sizeof work, journey, sizeof journey, 0, 5, 0);
-    return unused;
-}
-static void *margin(void *unused) { ttg_margin(file, sizeof file, notices, sizeof notices, graph, sizeof graph, 0, 1); return unused; }
+static void *check(void *unused) { answer = ttg_check(file, sizeof file); return unused; }
+static void *build(void *unused) { answer = ttg_build(BOTH); return unused; }
+static void *post(void *unused) { answer = ttg_post(BOTH, NOTICES, 1, 10); return unused; }
+static void *withdraw(void *unused) { answer = ttg_withdraw(BOTH, NOTICES); return unused; }
+static void *enquire(void *unused) { answer = ttg_enquire(BOTH, work, sizeof work, journey, sizeof journey, 0, 5, 0); return unused; }
+static void *margin(void *unused) { answer = (uint64_t)ttg_margin(BOTH, 0, 1); return unused; }
 
 static size_t used(void *(*call)(void *))
 {
@@ -69,10 +71,17 @@ int main(void)
     static const struct { const char *name; void *(*call)(void *); } calls[] = {
         { "check", check }, { "build", build }, { "post", post }, { "withdraw", withdraw }, { "enquire", enquire }, { "margin", margin },
     };
-    size_t none;
+    unsigned passed = 0, failed = 0;
     make_file();
-    none = used(nothing);
-    for (size_t i = 0; i < sizeof calls / sizeof calls[0]; i++)
-        printf("%-9s%7zu\n", calls[i].name, used(calls[i].call) - none);
-    return 0;
+    size_t none = used(nothing);
+    for (size_t i = 0; i < sizeof calls / sizeof calls[0]; i++) {
+        size_t bytes = used(calls[i].call) - none;
+        int ok = TTG_NUMBER(answer) == TTG_ACCEPTED && bytes <= TTG_STACK_BYTES;
+        printf("%-9s%7zu%s\n", calls[i].name, bytes, ok ? "" : " WRONG");
+        ok ? passed++ : failed++;
+        for (uint16_t n = 1; calls[i].call == build && n < NOTICES; n++)
+            if (TTG_NUMBER(ttg_post(BOTH, n, n, 1440)) != TTG_ACCEPTED) abort();
+    }
+    printf("%u passed, %u failed\n", passed, failed);
+    return failed > 0;
 }

@@ -1,8 +1,10 @@
 /* Runs a script of vectors against the functions of ttg.h and prints what they answer; run.sh compares that with stored results.
+ * The scripts and their results are the parts vectors/NN-name.txt and .expected.
  *
  * Standard input is the script, one command a line: a letter, then decimal numbers from 0 to 65535, each after one space. The
  * commands work on one timetable file and four areas of numbers, which are 0 notices, 1 graph, 2 work and 3 journey. On the file:
  *   f S C    a fresh file of S stops and C connections, each connection a trip of its own to the next stop
+ *   j        the file of example J
  *   l L      the file's length becomes L
  *   b P V    the byte at P becomes V % 256
  *   w P V    the number whose low byte is at P becomes V
@@ -12,6 +14,7 @@
  * The operations, by the file and by what is lent of the areas:
  *   B        builds
  *   P n r d  posts notice n of connection r with delay d
+ *   N a e    posts notices a to e up to the first that is refused, each of connection n % C with delay n % 1440 + 1, and prints how many
  *   W n      withdraws notice n
  *   Q a b t  enquires from stop a to stop b at time t
  *   M c d    the margin of the change from connection c to connection d
@@ -21,7 +24,6 @@
  *   F i v    each number becomes v
  *   X i k    prints number k
  *   Y i a e  prints numbers a to e - 1
- *   D i      prints a checksum, by which a change shows
  * A line that starts with # is a heading and is printed as it is. A line that cannot be read, or that names a place out of range,
  * changes nothing and prints a question mark.
  */
@@ -83,6 +85,19 @@ static bool fresh(const uint16_t *x)
     file_len = place(stops, connections);
     if (file_len > sizeof file)
         file_len = sizeof file;
+    return true;
+}
+
+static bool example_j(const uint16_t *x)
+{
+    static const uint16_t times[] = {4, 5, 3}, connections[][5] = {
+        {0, 0, 1, 600, 620}, {0, 1, 2, 625, 640}, {1, 1, 2, 622, 650}, {1, 2, 0, 655, 690}, {2, 1, 2, 630, 642}};
+    (void)x;
+    fresh((const uint16_t[]){LENGTH_OF(times), LENGTH_OF(connections)});
+    for (size_t s = 0; s < LENGTH_OF(times); s++)
+        put_number(HEADER + 2 * s, times[s]);
+    for (size_t c = 0; c < LENGTH_OF(connections); c++)
+        put_connection(place(LENGTH_OF(times), c), connections[c]);
     return true;
 }
 
@@ -174,6 +189,16 @@ static bool post(const uint16_t *x)
     return true;
 }
 
+static bool post_many(const uint16_t *x)
+{
+    unsigned n = x[0], connections = get(file + 7);
+    uint64_t a = 0;
+    for (; connections > 0 && n <= x[1] && a % 65536 == 0; n += a % 65536 == 0)
+        a = ttg_post(FILE_BYTES, LENT(NOTICES), LENT(GRAPH), (uint16_t)n, (uint16_t)(n % connections), (uint16_t)(n % 1440 + 1));
+    printf("posted %u notices\n", n - x[0]);
+    return true;
+}
+
 static bool withdraw(const uint16_t *x)
 {
     uint64_t a = ttg_withdraw(FILE_BYTES, LENT(NOTICES), LENT(GRAPH), x[0]);
@@ -249,25 +274,13 @@ static bool show(const uint16_t *x)
     return number != NULL;
 }
 
-/* The number of each place counts with a weight of its own. */
-static bool show_checksum(const uint16_t *x)
-{
-    unsigned sum = 0;
-    if (x[0] >= AREAS)
-        return false;
-    for (unsigned i = 0; i < areas[x[0]].room; i++)
-        sum = (31 * sum + get(areas[x[0]].bytes + 2 * i)) % 65521;
-    printf("sum %u\n", sum);
-    return true;
-}
-
 /* ---- The script ---- */
 
 /* Letter, how many numbers follow it, and what obeys it; false where a number is out of range. */
 static const struct command { char letter; int numbers; bool (*obey)(const uint16_t *); } commands[] = {
-    {'f', 2, fresh}, {'l', 1, cut}, {'b', 2, set_byte}, {'w', 2, set_number}, {'t', 2, set_transfer_time},
-    {'k', 6, set_connection}, {'c', 0, check}, {'B', 0, build}, {'P', 3, post}, {'W', 1, withdraw}, {'Q', 3, enquire},
-    {'M', 2, margin}, {'A', 2, lend}, {'S', 3, set}, {'F', 2, fill}, {'X', 2, show}, {'Y', 3, show_part}, {'D', 1, show_checksum},
+    {'f', 2, fresh}, {'j', 0, example_j}, {'l', 1, cut}, {'b', 2, set_byte}, {'w', 2, set_number}, {'t', 2, set_transfer_time},
+    {'k', 6, set_connection}, {'c', 0, check}, {'B', 0, build}, {'P', 3, post}, {'N', 2, post_many}, {'W', 1, withdraw},
+    {'Q', 3, enquire}, {'M', 2, margin}, {'A', 2, lend}, {'S', 3, set}, {'F', 2, fill}, {'X', 2, show}, {'Y', 3, show_part},
 };
 
 static bool is_digit(char c) { return c >= '0' && c <= '9'; }

@@ -1,14 +1,15 @@
 // The library's answers as numbers for C. An answer is number + 65536 * value: the number is 0 for an accepted call, else the
 // refusal's, with its place for a value.
 ghost use mathlib.Core.Path.{_≡_};
+ghost use Rattle.timetable.specs.Answers.{isAccepted};
 ghost use Rattle.timetable.specs.Check.{toldCounts};
 ghost use Rattle.graph.specs.Answers.{toldNumber};
 ghost use Rattle.journeys.specs.Reading.{toldArrival};
-ghost use Rattle.search.specs.Margin.{toldMargin};
+ghost use Rattle.margins.specs.Margin.{toldMargin};
 ghost use Rattle.codes.specs.Encoded.{pair, coded, codedCounts, codedArrival, codedMargin};
 use graph::Noted;
 use journeys::Enquired;
-use search::Margined;
+use margins::Margined;
 use timetable::Checked;
 
 // How many values a number of 16 bits has.
@@ -34,6 +35,16 @@ pub fn code_counts(checked: Checked) -> u64
     }
 }
 
+// Whether a check or a building was accepted.
+pub fn counts_accepted(checked: Checked) -> bool
+    ensures { λ r. ⌜ r ≡ isAccepted (toldCounts checked) ⌝ }
+{
+    match checked {
+        Checked::Accepted(_, _) => true,
+        Checked::Refused(_, _) => false,
+    }
+}
+
 // The answer of a posting or a withdrawal.
 pub fn code_noted(noted: Noted) -> u64
     ensures { λ r. ⌜ r ≡ coded (toldNumber noted) ⌝ }
@@ -41,6 +52,16 @@ pub fn code_noted(noted: Noted) -> u64
     match noted {
         Noted::Accepted(number) => answer_of(0, number, 0),
         Noted::Refused(number, place) => answer_of(number, place, 0),
+    }
+}
+
+// Whether a posting or a withdrawal was accepted.
+pub fn noted_accepted(noted: Noted) -> bool
+    ensures { λ r. ⌜ r ≡ isAccepted (toldNumber noted) ⌝ }
+{
+    match noted {
+        Noted::Accepted(_) => true,
+        Noted::Refused(_, _) => false,
     }
 }
 

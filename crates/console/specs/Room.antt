@@ -1,13 +1,7 @@
--- The room for answer lines. Assumes nothing.
-use mathlib.Core.List.{List}
+-- Where the input stands in its block. Assumes nothing.
 use Prim.Native.Nat.{ℕ, _≤_}
-use lib.ListN.{length}
-use Rattle.lines.specs.Room.{lineRoom, arrivalRoom}
+use Rattle.console.specs.declared.Input.{Input}
 
--- an area with room for a line without a journey
-abbrev pub LineRoom : List ℕ → Type 0
-LineRoom out = lineRoom ≤ length out
-
--- an area with room for any line, a journey's too
-abbrev pub OutRoom : List ℕ → List ℕ → Type 0
-OutRoom journey out = (lineRoom ≤ length out) × (arrivalRoom (length journey) ≤ length out)
+-- the bytes that are not worked yet lie in a block of n bytes
+abbrev pub InBlock : Input → ℕ → Type 0
+InBlock input n = (input .at ≤ input .end) × (input .end ≤ n)

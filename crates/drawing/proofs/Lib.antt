@@ -1,4 +1,2 @@
 pub mod Splice
 pub mod Drawing
-pub mod Comparing
-pub mod Certified

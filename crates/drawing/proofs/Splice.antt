@@ -2,9 +2,8 @@
 use mathlib.Core.Path.{_≡_, sym, _∙_}
 use mathlib.Core.List.{List, _++_, append-assoc}
 use Prim.Native.Nat.{ℕ, _+_, _-_, _≤_}
-use native.Mathlib.Nat.{sub-zero}
 use native.Mathlib.Omega.{arith}
-use borrow.Rule.Slice.PartMut.{midOf, putMid, post-is}
+use borrow.Rule.Slice.PartMut.{putMid, post-is}
 use lib.ListN.{length, take, drop, length-append}
 use lib.Seq.{take-at, drop-at, take-take, take-append-le, length-take-le}
 use Rattle.drawing.specs.Area.{spliced}
@@ -12,14 +11,6 @@ use Rattle.drawing.specs.Area.{spliced}
 -- a part that was lent and came back
 pub put-part : (xs ys : List ℕ) (a e : ℕ) → a ≤ e → putMid a (e - a) xs ys ≡ spliced xs a e ys
 put-part xs ys a e h = rw (post-is a e xs h, append-assoc)
-
--- a front of xs that was lent and came back as ys
-module _ (xs ys : List ℕ) (e : ℕ) (l : length ys ≡ e) where
-  pub lent-length : e ≤ length (putMid 0 (e - 0) xs ys)
-  lent-length = rw (put-part xs ys 0 e (omega arith)) (simp length-append (omega arith))
-
-  pub lent-front : midOf 0 (e - 0) (putMid 0 (e - 0) xs ys) ≡ ys
-  lent-front = rw (put-part xs ys 0 e (omega arith), sub-zero) (take-at ys (drop e xs) e l)
 
 -- p stands before n, and the rest is as it was in d
 splice-more : (d p xs ys : List ℕ) (n e : ℕ) → length p ≡ n → n ≤ e → xs ≡ p ++ drop n d → spliced xs n e ys ≡ p ++ ys ++ drop e d

@@ -1,5 +1,6 @@
 -- The fronts of areas of bytes: the numbers that an operation can need of them. Assumes nothing.
 use mathlib.Core.Path.{_≡_}
+use mathlib.Core.Bool.{Bool, cond}
 use mathlib.Core.List.{List}
 use Prim.Native.Nat.{ℕ, _/_, min}
 use lib.ListN.{length}
@@ -13,6 +14,10 @@ lentBytes notices graph = lent (numbersOf notices) (numbersOf graph)
 -- how many numbers the front of an area of bytes has: all of them, and no more than `most`
 abbrev pub frontLength : ℕ → List ℕ → ℕ
 frontLength most bytes = min most (length bytes / 2)
+
+-- how many numbers of an area are written back: all that it states, or none
+abbrev pub writes : Bool → ℕ → ℕ
+writes any stated = cond any stated 0
 
 -- numbers for the fronts of two areas, of at most k and m numbers: as many as these have
 pub record FrontsFit (k m : ℕ) (first second a b : List ℕ) : Type 0 where

@@ -6,7 +6,7 @@ use Rattle.timetable.specs.declared.Verdict.the-variants.{Passed}
 use Rattle.model.specs.Notices.{Notice, WellFormed}
 use Rattle.model.specs.Parts.{askedVerdict}
 use Rattle.model.proofs.Entering.{struck-formed}
-use Rattle.checks.proofs.Passed.{posting-formed}
+use Rattle.model.proofs.Asked.{posting-formed}
 use Rattle.graph.specs.declared.Call.{Call}
 use Rattle.graph.specs.declared.Call.the-variants.{Post, Withdraw}
 use Rattle.graph.specs.Call.{asksOf, standingAfter}

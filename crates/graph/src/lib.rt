@@ -1,7 +1,6 @@
 // The graph layer: it checks, builds and updates the graph and the notices. What the search needs of it, it offers here: the checks
 // of handed-in areas, the readers of the graph area's entries and the order of departures.
 ghost use mathlib.Core.Path.{_≡_};
-ghost use mathlib.Core.List.{[]};
 ghost use Prim.Native.Nat.{ℕ};
 ghost use Rattle.timetable.specs.Answers.{refused};
 ghost use Rattle.timetable.specs.Accepted.{Opened};
@@ -16,6 +15,10 @@ ghost use Rattle.graph.specs.Answers.{toldNumber};
 ghost use Rattle.graph.specs.Call.{asksOf, standingAfter, numberIn, calledBy};
 use timetable::Checked;
 use timetable::Verdict;
+
+// The check of a file, and building.
+pub use acceptance::check;
+pub use building::build;
 
 // The checks of both areas, alone and after the file's.
 pub use checks::contents_verdict;
@@ -43,17 +46,6 @@ pub enum Call {
     Withdraw(u16),
 }
 
-// No notice stands, and the graph says so.
-fn clear_all(file: &[u8], stops: usize, n: usize, notices: &mut [u16], graph: &mut [u16])
-    requires { ⌜ Opened (now file) stops n × (roomVerdict (dayOf (now file)) (lent (now notices) (now graph)) ≡ Passed) ⌝ }
-    ensures { λ _.
-        ⌜ lent (now (notices .exit)) (now (graph .exit))
-        ≡ written (dayOf (now (file .entry))) (lent (now (notices .entry)) (now (graph .entry))) [] ⌝ }
-{
-    notices::clear_rows(notices);
-    drawing::fill_graph(file, stops, n, notices, graph);
-}
-
 // Whether a call passes what it asks of its own numbers, by the notices that stand.
 fn call_verdict(notices: &[u16], n: u16, call: Call) -> Verdict
     requires { ⌜ ((C : ℕ) × Standing C (now notices)) ⌝ }
@@ -61,9 +53,9 @@ fn call_verdict(notices: &[u16], n: u16, call: Call) -> Verdict
 {
     match call {
         Call::Post(number, connection, delay) => {
-            checks::posting_verdict(notices, n, number, connection, delay)
+            asks::posting_verdict(notices, n, number, connection, delay)
         }
-        Call::Withdraw(number) => checks::withdrawal_verdict(notices, number),
+        Call::Withdraw(number) => asks::withdrawal_verdict(notices, number),
     }
 }
 
@@ -120,29 +112,6 @@ fn refused(checked: Checked) -> Noted
         Checked::Accepted(_, _) => Noted::Refused(0, 0),
         Checked::Refused(number, place) => Noted::Refused(number, place),
     }
-}
-
-// An empty notice area and the graph without notices.
-pub fn build(file: &[u8], notices: &mut [u16], graph: &mut [u16]) -> Checked
-    ensures { λ r.
-        ⌜ outcome (toldCounts r) (lent (now (notices .exit)) (now (graph .exit)))
-        ≡ built (dayOf (now (file .entry))) (lent (now (notices .entry)) (now (graph .entry))) ⌝ }
-{
-    let checked = timetable::check(file);
-    let Checked::Accepted(stops, connections) = checked else {
-        return checked;
-    };
-    let verdict = room_verdict(file, notices, graph);
-    match verdict {
-        Verdict::Refused(number, place) => {
-            return Checked::Refused(number, place);
-        }
-        Verdict::Passed => {}
-    }
-    let s = stops as usize;
-    let n = connections as usize;
-    clear_all(file, s, n, notices, graph);
-    Checked::Accepted(stops, connections)
 }
 
 // A call: the notices that stand, and the graph with them.

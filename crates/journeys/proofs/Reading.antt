@@ -21,9 +21,9 @@ use Rattle.model.specs.Shown.{shown, Readable}
 use Rattle.model.proofs.Rounds.{length-predecessors}
 use Rattle.model.proofs.Journeys.{follow-begins, journey-here, journey-there, last-reached}
 use Rattle.model.proofs.Shown.{readable-room}
-use Rattle.journeys.specs.Trail.{journeyTo, Trail, JourneyWritten}
+use Rattle.trails.specs.Trail.{journeyTo, Trail, JourneyWritten}
 use Rattle.journeys.specs.Reading.{readOut}
-use Rattle.journeys.proofs.Trail.{rooted, length-follow}
+use Rattle.trails.proofs.Trail.{rooted, length-follow}
 
 module _ (f graph work journey : List ℕ) (a b t : ℕ) (r : Readable f graph) (room : connections f ≤ length journey)
     (filled : take (connections f) work ≡ predecessors (shown f graph) a t) where

@@ -1,5 +1,4 @@
-// The journey of an enquiry, read out of its predecessors: the last connection, how many there are, and all of them in the
-// order of travel.
+// The journey of an enquiry, read out of its predecessors: its last connection, and from there all of them.
 ghost use mathlib.Core.Path.{_≡_};
 ghost use mathlib.Core.Bool.{_&&_};
 ghost use Prim.Native.Nat.{_+_, _<_, _≤_};
@@ -10,7 +9,6 @@ ghost use Rattle.timetable.specs.Room.{HasConnection};
 ghost use Rattle.model.specs.Predecessors.{predecessors, reachedIn, lastTo};
 ghost use Rattle.model.specs.Operations.{enquiry};
 ghost use Rattle.model.specs.Shown.{shown, Readable};
-ghost use Rattle.journeys.specs.Trail.{journeyTo, Trail, JourneyWritten};
 ghost use Rattle.journeys.specs.Last.{Better};
 ghost use Rattle.journeys.specs.Reading.{toldArrival, readOut};
 use model::NONE;
@@ -75,37 +73,6 @@ fn find_last(file: &[u8], graph: &[u16], predecessors: &[u16], stop: u16) -> u16
     best
 }
 
-// How many connections the journey has that ends with last.
-fn journey_length(predecessors: &[u16], last: u16) -> usize
-    requires { ⌜ Trail (now predecessors) last ⌝ }
-    ensures { λ r. ⌜ r ≡ length (journeyTo (now (predecessors .entry)) last) ⌝ }
-{
-    let mut k = 1;
-    let mut c = last;
-    while predecessors[c as usize] != c {
-        c = predecessors[c as usize];
-        k += 1;
-    }
-    k
-}
-
-// Writes the journey that ends with last, in the order of travel, to the front of the journey area; how many connections
-// it has.
-fn write_journey(predecessors: &[u16], journey: &mut [u16], last: u16) -> usize
-    requires { ⌜ Trail (now predecessors) last × (length (now predecessors) ≤ length (now journey)) ⌝ }
-    ensures { λ r. ⌜ JourneyWritten (now (predecessors .entry)) last (now (journey .entry)) r (now (journey .exit)) ⌝ }
-{
-    let k = journey_length(predecessors, last);
-    let mut i = k;
-    let mut c = last;
-    while 0 < i {
-        i -= 1;
-        journey[i] = c;
-        c = predecessors[c as usize];
-    }
-    k
-}
-
 // The journey to stop `to` read out of the predecessors of an enquiry from stop `from` at `time`: its connections in the
 // order of travel to the front of `journey`, or refusal 30.
 pub fn read_journey(
@@ -132,7 +99,7 @@ pub fn read_journey(
     if last >= NONE {
         return Enquired::Refused(refusal::UNREACHABLE, 0);
     }
-    let count = write_journey(predecessors, journey, last);
+    let count = trails::write_journey(predecessors, journey, last);
     let arrival = graph::arrival(graph, last as usize);
     Enquired::Arrives(arrival, count as u16)
 }

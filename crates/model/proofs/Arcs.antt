@@ -6,7 +6,7 @@ use Prim.Native.Nat.{ℕ, suc, _<_, _≤_}
 use native.Mathlib.Omega.{arith}
 use Rattle.model.specs.Least.{none, rank}
 use Rattle.model.specs.Network.{Network, Sound}
-use Rattle.model.specs.Graph.{waiting, transfer, Node, Arc, connection, aboard, wait, change, Forward}
+use Rattle.model.specs.Graph.{board, waiting, transfer, Node, Arc, connection, aboard, wait, change, Forward}
 use Rattle.model.proofs.ByCases.{by-lt}
 use Rattle.model.proofs.Rank.{rank-less}
 use Rattle.model.proofs.Follows.{Change}
@@ -16,22 +16,22 @@ use Rattle.model.proofs.Boards.{Behind, change-on, waiting-listed, tran
 abbrev pub placeOf : Network → ℕ → ℕ
 placeOf net c = rank (net .departure) (net .connections) c
 
--- w is of the same stop as c, and has a later place
+-- w is on the same board as c, and has a later place
 pub record Waits (net : Network) (c w : ℕ) : Type 0 where
   pub within : w < net .connections
-  pub stop : net .from w ≡ net .from c
+  pub same-board : board net w ≡ board net c
   pub place : placeOf net c < placeOf net w
   pub time : net .departure c ≤ net .departure w
 
 module _ (net : Network) (sound : Sound net) where
   module _ (c : ℕ) (h : c < net .connections) where
-    -- a waiting entry is of the same stop and later
+    -- a waiting entry is of the same board and later
     pub waits : waiting net c < none → Waits net c (waiting net c)
     waits l =
         let s : (waiting net c < net .connections) × Behind net c (waiting net c) = entry-holds net sound (waiting-listed net sound c) l in
         record {
           within = s .0;
-          stop = s .1 .0;
+          same-board = s .1 .0;
           place = rank-less (net .departure) (net .connections) c (waiting net c) h (s .1 .1);
           time = omega (arith, sound .few);
         }

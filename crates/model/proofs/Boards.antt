@@ -20,9 +20,9 @@ pub data Listed (net : Network) (P : ℕ → Type 0) (r : ℕ) : Type 0 where
   nobody : r ≡ none → ((d : ℕ) → d < net .connections → P d → ⊥) → Listed net P r
   foremost : r < net .connections → P r → ((e : ℕ) → e < net .connections → P e → key (net .departure) r ≤ key (net .departure) e) → Listed net P r
 
--- d leaves from the same stop as c, and later, or in the same minute with a higher number
+-- d is on the same board as c, and later, or in the same minute with a higher number
 abbrev pub Behind : Network → ℕ → ℕ → Type 0
-Behind net c d = (net .from d ≡ net .from c) × (key (net .departure) c < key (net .departure) d)
+Behind net c d = (board net d ≡ board net c) × (key (net .departure) c < key (net .departure) d)
 
 -- d is on board b, and leaves when a passenger of e is ready, or later
 abbrev pub ChangeOn : Network → ℕ → ℕ → ℕ → Type 0
@@ -42,34 +42,34 @@ module _ (net : Network) (sound : Sound net) where
   on-board b test = least-is (λ d. eqb (board net d) b && test d) (net .departure) (net .connections) (omega (arith, sound .few))
 
   -- the same with the tests read as a fact
-  pub on-board-means : (b : ℕ) (test : ℕ → Bool) (P : ℕ → Type 0) → ((d : ℕ) → net .from d ≡ b → test d ≡ true → P d) → ((d : ℕ) → P d → (net .from d ≡ b) × (test d ≡ true))
+  pub on-board-means : (b : ℕ) (test : ℕ → Bool) (P : ℕ → Type 0) → ((d : ℕ) → board net d ≡ b → test d ≡ true → P d) → ((d : ℕ) → P d → (board net d ≡ b) × (test d ≡ true))
       → Listed net P (firstOn net b test)
   on-board-means b test P means passes = read (on-board b test)
     where
       holds : (d : ℕ) → eqb (board net d) b && test d ≡ true → P d
-      holds d q = means d (eqb-true _ _ (and-left (eqb (net .from d) b) (test d) q)) (and-right (eqb (net .from d) b) (test d) q)
+      holds d q = means d (eqb-true _ _ (and-left (eqb (board net d) b) (test d) q)) (and-right (eqb (board net d) b) (test d) q)
 
       on : (d : ℕ) → P d → eqb (board net d) b && test d ≡ true
-      on d p = and-both (eqb (net .from d) b) (test d) (eq-eqb _ _ (passes d p .0)) (passes d p .1)
+      on d p = and-both (eqb (board net d) b) (test d) (eq-eqb _ _ (passes d p .0)) (passes d p .1)
 
       read : {r : ℕ} → Least (λ d. eqb (board net d) b && test d) (net .departure) (net .connections) r → Listed net P r
       read (inl l) = nobody (l .0) (λ d h p. l .1 d h (on d p))
       read (inr f) = foremost (f .below) (holds _ (f .passes)) (λ e h p. f .least e h (on e p))
 
-  -- a waiting entry is the next departure from the same stop
+  -- a waiting entry is the next departure of the same board
   pub waiting-listed : (c : ℕ) → Listed net (Behind net c) (waiting net c)
   unfolding waiting
-  waiting-listed c = on-board-means (net .from c) _ _ (λ d s q. (s, ltb-true _ _ q)) (λ d p. (p .0, lt-ltb _ _ (p .1)))
+  waiting-listed c = on-board-means (board net c) _ _ (λ d s q. (s, ltb-true _ _ q)) (λ d p. (p .0, lt-ltb _ _ (p .1)))
 
   -- a transfer entry is the first departure that a passenger who arrives by c can change to
   pub transfer-listed : (c b : ℕ) → Listed net (ChangeOn net c b) (transferTo net c b)
   unfolding transferTo
   transfer-listed c b = on-board-means b _ _ (λ d s q. (s, leb-true _ _ q)) (λ d p. (p .0, le-leb _ _ (p .1)))
 
-  -- a first departure is the first from its stop
-  pub first-listed : (s : ℕ) → Listed net (λ d. net .from d ≡ s) (firstDeparture net s)
+  -- a first departure is the first of its board
+  pub first-listed : (b : ℕ) → Listed net (λ d. board net d ≡ b) (firstDeparture net b)
   unfolding firstDeparture
-  first-listed s = on-board-means s _ _ (λ d p q. p) (λ d p. (p, refl))
+  first-listed b = on-board-means b _ _ (λ d p q. p) (λ d p. (p, refl))
 
   module _ {P : ℕ → Type 0} {r : ℕ} where
     -- an entry that is a connection is one of which P holds
@@ -87,27 +87,27 @@ module _ (net : Network) (sound : Sound net) where
     entry-first (foremost k q f) d h p = (k, f d h p)
 
 -- two networks agree on what departure lists are made of
-pub record Agree (net net′ : Network) : Type 0 where
+pub record Alike (net net′ : Network) : Type 0 where
   pub stops : net .stops ≡ net′ .stops
   pub connections : net .connections ≡ net′ .connections
-  pub from : (c : ℕ) → c < net .connections → net .from c ≡ net′ .from c
+  pub boards : (c : ℕ) → c < net .connections → board net c ≡ board net′ c
   pub to : (c : ℕ) → c < net .connections → net .to c ≡ net′ .to c
   pub departure : (c : ℕ) → c < net .connections → net .departure c ≡ net′ .departure c
   pub ready : (c b : ℕ) → c < net .connections → ready net c b ≡ ready net′ c b
 
 -- entries depend only on the values of connections and stops that there are
-module _ (net net′ : Network) (few : net .connections ≤ none) (agree : Agree net net′) where
+module _ (net net′ : Network) (few : net .connections ≤ none) (agree : Alike net net′) where
   -- the first on a board, by tests that agree
   pub on-board-same : (b : ℕ) (test test′ : ℕ → Bool) → ((d : ℕ) → d < net .connections → test d ≡ test′ d) → firstOn net b test ≡ firstOn net′ b test′
   unfolding firstOn
   on-board-same b test test′ same =
       rw (← agree .connections)
-      (least-same _ _ (net .departure) (net′ .departure) (net .connections) few (λ d h. rw (agree .from d h, same d h)) (agree .departure))
+      (least-same _ _ (net .departure) (net′ .departure) (net .connections) few (λ d h. rw (agree .boards d h, same d h)) (agree .departure))
 
   -- waiting entries
   pub waiting-same : (c : ℕ) → c < net .connections → waiting net c ≡ waiting net′ c
   unfolding waiting
-  waiting-same c h = rw (← agree .from c h) (on-board-same (net .from c) _ _ (λ d k. rw (agree .departure c h, agree .departure d k)))
+  waiting-same c h = rw (← agree .boards c h) (on-board-same (board net c) _ _ (λ d k. rw (agree .departure c h, agree .departure d k)))
 
   -- transfer entries
   pub transfer-to-same : (c b : ℕ) → c < net .connections → transferTo net c b ≡ transferTo net′ c b

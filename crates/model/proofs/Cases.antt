@@ -17,11 +17,11 @@ use Rattle.model.specs.Journeys.{canBeFirst, canFollow}
 use Rattle.model.specs.Predecessors.{choose, rounds, predecessors, follow, arriving, lastTo, nowhere, journeyIn}
 use Rattle.model.specs.Margin.{marginOf}
 use Rattle.model.specs.Day.{dayOf, lent}
-use Rattle.model.specs.Drawn.{graphLength, same}
+use Rattle.model.specs.Drawn.{graphLength, graphFor, same}
 use Rattle.model.specs.Parts.{partVerdict}
 use Rattle.model.specs.Operations.{built, changed, Enquiry, enquired, margined}
-use Rattle.model.specs.Register.{Call, posting, withdrawal}
-use Rattle.model.specs.Runs.{Run, ran, runOf}
+use Rattle.model.specs.Register.{Call, posting, withdrawal, has, without, registerStep, kept}
+use Rattle.model.specs.Runs.{Run, ran, runOf, registerOf}
 use Rattle.model.specs.Example.{fileOf, inBytes}
 use Rattle.model.proofs.Instances.{Row, right, told}
 
@@ -409,6 +409,14 @@ cases =
     (run trips refusals .areas .notices, 1 ∷ 1 ∷ 0 ∷ 8 ∷ (replicate 597 0 ++ (7 ∷ []))) ∷
     (run trips refusals .areas .graph, run trips (posting 1 0 8 ∷ []) .areas .graph) ∷
     (timesIn trips refusals, 108 ∷ 118 ∷ 118 ∷ 128 ∷ 128 ∷ 138 ∷ 140 ∷ 150 ∷ []) ∷
+    -- the register answers alike
+    (answersTold (registerOf (dayOf trips) refusals .answers), answersTold (run trips refusals .answers)) ∷
+    -- it keeps the notices as they came, and the area ascending by number
+    (flat (registerOf (dayOf trips) asTheyCame .register), 7 ∷ 0 ∷ 8 ∷ 5 ∷ 3 ∷ 4 ∷ 3 ∷ 2 ∷ 1 ∷ []) ∷ (
+      run trips asTheyCame .areas .notices,
+      3 ∷ 3 ∷ 2 ∷ 1 ∷ 5 ∷ 3 ∷ 4 ∷ 7 ∷ 0 ∷ 8 ∷ (replicate 591 0 ++ (7 ∷ [])),
+    ) ∷
+    (run trips asTheyCame .areas .graph, graphFor (dayOf trips) (registerOf (dayOf trips) asTheyCame .register) ++ (7 ∷ [])) ∷
     -- a number that was withdrawn can be posted again
     (
       answersTold (run trips (posting 1 0 8 ∷ withdrawal 1 ∷ withdrawal 1 ∷ posting 1 3 2 ∷ []) .answers),
@@ -456,10 +464,13 @@ cases =
         posting 0 4 0 ∷ posting 1 4 0 ∷ posting 1 0 0 ∷ posting 1 0 1441 ∷ posting 1 0 8 ∷ posting 1 1 2 ∷ posting 1 4 5
         ∷ withdrawal 0 ∷ withdrawal 2 ∷ []
 
+    asTheyCame : List Call
+    asTheyCame = posting 7 0 8 ∷ posting 3 1 2 ∷ posting 5 3 4 ∷ withdrawal 3 ∷ posting 3 2 1 ∷ []
+
 pub cases-right : right cases ≡ true
 unfolding right cases told whole enquiryIn spare marginIn tests answersTold timesIn run
     sameMinute overtaking loop meeting back narrow board trips choice ends empty inBytes
-    runOf ran built changed enquired margined marginOf partVerdict same
+    has without registerStep kept runOf ran built changed enquired margined marginOf partVerdict same
     fileVerdict headerVerdict stopVerdict wrongStops wrongTrip wrongTimes wrongJoin connectionVerdict firstBelow
     transferTime trip from to scheduledDeparture scheduledArrival staysAboard
     leastBelow tab flat cut areaOf rowsOf stands entered struck standsRight unusedRight rowsFrom rowsVerdict

@@ -7,15 +7,16 @@ pub use Rattle.timetable.proofs.Refusals.{refused-iff}
 pub use Rattle.model.proofs.Areas.{rows-area, past-area}
 pub use Rattle.model.proofs.Rows.{area-right, area-read, rows-checked, rows-place}
 pub use Rattle.model.proofs.Entering.{entered-formed, struck-formed, stands-iff, stands-entered, stands-struck, stands-other}
--- Times. The primary delay is the largest of a connection's notices; a late connection passes on what the time at the stop leaves; the
+-- Times. The primary delay is the largest of a connection's notices, whatever their order; a late connection passes on what the time at the stop leaves; the
 -- network is sound, and no time is after 5,759.
-pub use Rattle.model.proofs.Times.{primary-among, primary-largest, departure-own, departure-after, travel-kept, on-time, on-time-arrival, departure-most, network-sound}
+pub use Rattle.model.proofs.Times.{primary-among, primary-largest, primary-same, departure-own, departure-after, travel-kept, on-time, on-time-arrival, departure-most, network-sound, network-same}
 -- The graph. Each entry is the one that document 01's sentence says; the area's length; every arc leads forward; journeys are the
 -- routes over the arcs.
 pub use Rattle.model.proofs.Boards.{waiting-listed, transfer-listed, first-listed}
 pub use Rattle.model.proofs.GraphArea.{length-graph}
 pub use Rattle.model.proofs.Arcs.{arcs-forward}
 pub use Rattle.model.proofs.Routes.{route-iff}
+pub use Rattle.model.proofs.Shown.{arcs-lead}
 -- Journeys. Each predecessor is the one that document 01 says; the journey is valid, none arrives earlier, and it is the first in the
 -- order; there is none exactly if the predecessors lead nowhere; a journey has at most as many connections as there are.
 pub use Rattle.model.proofs.Journeys.{predecessor-means, reached-iff, journey-best, best-only, nowhere-iff, journey-short, at-most}
@@ -26,7 +27,8 @@ pub use Rattle.model.proofs.Parts.{call-chain, call-passed, avoids, ask
 pub use Rattle.model.proofs.Ready.{ready-by}
 -- Demand 2. What the answer of an enquiry means, whatever comes in.
 pub use Rattle.model.proofs.Enquiries.{enquiry-means}
--- Demand 3. The claim about whole runs.
+-- Demand 3. The register and the rows have the same notices; each call answers as the register does; the claim about whole runs.
+pub use Rattle.model.proofs.Register.{same-arranged, has-arranged, struck-arranged, count-arranged}
 pub use Rattle.model.proofs.Runs.{step, whole-runs, enquiry-refusals}
 -- For C: an operation on the fronts of its areas gives what it gives on the whole areas.
 pub use Rattle.model.proofs.Fronts.{front-built, front-changed, front-margined, front-enquired}

@@ -46,7 +46,7 @@ search-means net s a b t work journey = on (nowhere net w a b) refl
 
 module _ (day : Day) (areas : Areas) (work journey : List ℕ) (a b t : ℕ) where
   -- none of an enquiry's parts refuses with 30
-  before-30 : Avoids (enquiryParts day areas work journey a b t) refusal.unreachable
+  pub before-30 : Avoids (enquiryParts day areas work journey a b t) refusal.unreachable
   before-30 = (
     λ h. omega arith,
     (

@@ -58,11 +58,15 @@ table =
     -- connection 0 late by 5, and by 6
     (timesOf (posting 1 0 5 ∷ []) 1, 625 ∷ 640 ∷ []) ∷
     (timesOf (posting 1 0 6 ∷ []) 1, 626 ∷ 641 ∷ []) ∷
-    -- notices of 6 and 20 minutes on connection 0, in either order; the 20 withdrawn
+    -- notices of 6 and 20 minutes on connection 0, in either order; the 20 withdrawn; the same with the numbers exchanged
     (timesOf (posting 1 0 6 ∷ posting 2 0 20 ∷ []) 0, 620 ∷ 640 ∷ []) ∷
     (timesOf (posting 2 0 20 ∷ posting 1 0 6 ∷ []) 0, 620 ∷ 640 ∷ []) ∷
     (timesOf (posting 1 0 6 ∷ posting 2 0 20 ∷ withdrawal 2 ∷ []) 0, 606 ∷ 626 ∷ []) ∷
     (timesOf (posting 2 0 20 ∷ posting 1 0 6 ∷ withdrawal 2 ∷ []) 0, 606 ∷ 626 ∷ []) ∷
+    (timesOf (posting 2 0 6 ∷ posting 1 0 20 ∷ []) 0, 620 ∷ 640 ∷ []) ∷
+    (timesOf (posting 1 0 20 ∷ posting 2 0 6 ∷ []) 0, 620 ∷ 640 ∷ []) ∷
+    (timesOf (posting 2 0 6 ∷ posting 1 0 20 ∷ withdrawal 1 ∷ []) 0, 606 ∷ 626 ∷ []) ∷
+    (timesOf (posting 1 0 20 ∷ posting 2 0 6 ∷ withdrawal 1 ∷ []) 0, 606 ∷ 626 ∷ []) ∷
     -- 0 to 2 at 600, and at 601
     (told (enquiryAfter [] 0 2 600 .answer), 0 ∷ 640 ∷ 2 ∷ []) ∷
     (told (enquiryAfter [] 0 2 601 .answer), 30 ∷ 0 ∷ []) ∷

@@ -14,6 +14,8 @@ pub mod Arcs
 pub mod GraphArea
 pub mod Parts
 pub mod Operations
+pub mod Written
+pub mod Asked
 pub mod Ready
 pub mod Follows
 pub mod Routes
@@ -22,6 +24,7 @@ pub mod Journeys
 pub mod Shown
 pub mod Enquiries
 pub mod Fronts
+pub mod Register
 pub mod Runs
 pub mod Margin
 pub mod Instances

@@ -10,7 +10,7 @@ use lib.Signed.{_≤ℤ_, leZ-yes}
 use Rattle.timetable.specs.Check.{maxTransferTime}
 use Rattle.model.specs.Network.{Network, lastExpected, Sound}
 use Rattle.model.specs.Graph.{board, ready}
-use Rattle.model.specs.Margin.{marginBetween, marginOf}
+use Rattle.model.specs.Margin.{marginBetween, marginOf, leastMargin, mostMargin, MarginRange}
 use Rattle.model.proofs.ByCases.{by-lt}
 
 sub-is : (d s : ℕ) → pos d -ℤ pos s ≡ subℕ d s
@@ -75,13 +75,6 @@ module _ (d a g : ℕ) where
       (λ (l : a + g ≤ d). rw (made (d - (a + g)) (omega arith)) (leZ-yes tt))
       (by-lt d (a + g))
 
--- the largest and the smallest margin
-abbrev pub mostMargin : ℤ
-mostMargin = pos 5757
-
-abbrev pub leastMargin : ℤ
-leastMargin = negℤ (pos 5819)
-
 module _ (net : Network) (c d : ℕ) where
   -- just made: leaves when a passenger is ready
   pub margin-zero : (marginOf net c d ≡ pos 0) ↔ (net .departure d ≡ ready net c (board net d))
@@ -100,11 +93,13 @@ module _ (net : Network) (c d : ℕ) where
   )
 
   -- a margin lies between its ends
-  pub margin-range : Sound net → c < net .connections → d < net .connections → (leastMargin ≤ℤ marginOf net c d) × (marginOf net c d ≤ℤ mostMargin)
+  pub margin-range : Sound net → c < net .connections → d < net .connections → MarginRange (marginOf net c d)
   unfolding marginOf
   margin-range sound h k =
       let x : net .arrival c ≤ lastExpected = sound .early c h in
-      let y : net .transferTime c (board net d) ≤ maxTransferTime = sound .transfers c (board net d) h in (
-        margin-least (net .departure d) (net .arrival c) (net .transferTime c (board net d)) 5818 (omega arith),
-        margin-most (net .departure d) (net .arrival c) (net .transferTime c (board net d)) 5757 (omega (arith, sound .forward c h, sound .forward d k, sound .early d k)),
-      )
+      let y : net .transferTime c (board net d) ≤ maxTransferTime = sound .transfers c (board net d) h in
+      record {
+        least = margin-least (net .departure d) (net .arrival c) (net .transferTime c (board net d)) 5818 (omega arith);
+        most = margin-most (net .departure d) (net .arrival c) (net .transferTime c (board net d)) 5757
+            (omega (arith, sound .forward c h, sound .forward d k, sound .early d k));
+      }

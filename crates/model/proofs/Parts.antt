@@ -4,7 +4,7 @@ use mathlib.Core.Path.{_≡_, refl, sym, _∙_, ap}
 use mathlib.Core.Logic.{_↔_, _⊎_, inl, inr, ⊎-elim}
 use mathlib.Core.Bool.{not}
 use mathlib.Core.List.{List, [], _∷_, _++_}
-use Prim.Native.Nat.{ℕ, _≤_}
+use Prim.Native.Nat.{ℕ, _<_, _≤_}
 use native.Mathlib.Omega.{arith}
 use borrow.Author.Tests.{ltb-false, le-ltb}
 use lib.Dec.{ltb}
@@ -35,18 +35,18 @@ needs-passed day areas n area most = (
 )
 
 -- a file is refused with 1 to 11
-file-number : {f : List ℕ} {n p : ℕ} → FileRefusal f n p → n ≤ of-file.wrongJoin
-file-number (no-header h) = omega arith
-file-number (wrong-mark h k) = omega arith
-file-number (wrong-version h k) = omega arith
-file-number (wrong-stop-count h k) = omega arith
-file-number (wrong-connection-count h k) = omega arith
-file-number (wrong-length h k) = omega arith
-file-number (wrong-transfer s h k l m) = omega arith
-file-number (wrong-stops c h k) = omega arith
-file-number (wrong-trip c h k l) = omega arith
-file-number (wrong-times c h k l m) = omega arith
-file-number (wrong-join c h k l m o) = omega arith
+file-number : {f : List ℕ} {n p : ℕ} → FileRefusal f n p → (0 < n) × (n ≤ of-file.wrongJoin)
+file-number (no-header h) = (omega arith, omega arith)
+file-number (wrong-mark h k) = (omega arith, omega arith)
+file-number (wrong-version h k) = (omega arith, omega arith)
+file-number (wrong-stop-count h k) = (omega arith, omega arith)
+file-number (wrong-connection-count h k) = (omega arith, omega arith)
+file-number (wrong-length h k) = (omega arith, omega arith)
+file-number (wrong-transfer s h k l m) = (omega arith, omega arith)
+file-number (wrong-stops c h k) = (omega arith, omega arith)
+file-number (wrong-trip c h k l) = (omega arith, omega arith)
+file-number (wrong-times c h k l m) = (omega arith, omega arith)
+file-number (wrong-join c h k l m o) = (omega arith, omega arith)
 
 -- n is one of the numbers that a call refuses with for its own numbers
 abbrev pub AskedWith : List Ask → ℕ → Type 0
@@ -55,7 +55,7 @@ AskedWith (a ∷ more) n = (n ≡ a .number) ⊎ AskedWith more n
 
 -- n is one of the numbers that a part refuses with
 abbrev pub RefusesWith : Part → ℕ → Type 0
-RefusesWith given n = n ≤ of-file.wrongJoin
+RefusesWith given n = (0 < n) × (n ≤ of-file.wrongJoin)
 RefusesWith (needs m area most) n = n ≡ m
 RefusesWith rows n = n ≡ refusal.wrongRow
 RefusesWith drawn n = n ≡ refusal.wrongGraph
@@ -65,6 +65,11 @@ RefusesWith (asks own) n = AskedWith own n
 abbrev pub Avoids : List Part → ℕ → Type 0
 Avoids [] n = Unit {0}
 Avoids (p ∷ ps) n = (RefusesWith p n → ⊥) × Avoids ps n
+
+-- each number that a part refuses with is above 0 and has 16 bits
+abbrev pub Numbered : List Part → Type 0
+Numbered [] = Unit {0}
+Numbered (p ∷ ps) = ((n : ℕ) → RefusesWith p n → (0 < n) × (n < 65536)) × Numbered ps
 
 pub asked-number : (ns : List Notice) (own : List Ask) (n p : ℕ) → askedVerdict ns own ≡ Refused n p → AskedWith own n
 asked-number ns [] n p h = absurd (passed-not-refused refl h)
@@ -91,6 +96,15 @@ module _ (day : Day) (areas : Areas) where
       ⊎-elim
       (λ r. h .0 (part-number q n p r))
       (λ r. avoids ps n p (h .1) (r .1))
+      (else-refused (partVerdict day areas q) (verdict day areas ps) n p .0 e)
+
+  -- no part refuses with 0, nor with a number that 16 bits do not hold
+  pub parts-number : (ps : List Part) (n p : ℕ) → Numbered ps → verdict day areas ps ≡ Refused n p → (0 < n) × (n < 65536)
+  parts-number [] n p h e = absurd (passed-not-refused refl e)
+  parts-number (q ∷ ps) n p h e =
+      ⊎-elim
+      (λ r. h .0 n (part-number q n p r))
+      (λ r. parts-number ps n p (h .1) (r .1))
       (else-refused (partVerdict day areas q) (verdict day areas ps) n p .0 e)
 
   -- parts after parts

@@ -7,7 +7,7 @@ use Prim.Native.Nat.{ℕ, zero, suc, _+_, _<_, _≤_}
 use native.Mathlib.Omega.{arith}
 use Rattle.model.specs.Least.{key}
 use Rattle.model.specs.Network.{Network, Sound}
-use Rattle.model.specs.Graph.{waiting, transfer, Node, departureOf, arrivalOf, connection, aboard, wait, change}
+use Rattle.model.specs.Graph.{board, waiting, transfer, Node, departureOf, arrivalOf, connection, aboard, wait, change}
 use Rattle.model.specs.Journeys.{canBeFirst, canFollow, Ends, first, next, Route, start, onto, along}
 use Rattle.model.proofs.ByCases.{by-lt}
 use Rattle.model.proofs.Follows.{first-means, first-test, Aboard, Change, follow-means, change-follows, aboard-follows}
@@ -55,7 +55,7 @@ module _ (net : Network) (sound : Sound net) (a t : ℕ) where
   reads (along {js = js} r (change {c} {d} h q k)) = changed c d js (change-on net c d (entry-at net sound (transfer-listed net sound c (net .to c)) q k)) (reads r)
 
   -- from a departure along waiting arcs to one that stands behind it on the board; k bounds how far
-  wait-until : (k c d : ℕ) (js : List ℕ) → c < net .connections → d < net .connections → net .from d ≡ net .from c
+  wait-until : (k c d : ℕ) (js : List ℕ) → c < net .connections → d < net .connections → board net d ≡ board net c
       → key (net .departure) c ≤ key (net .departure) d → key (net .departure) d ≤ key (net .departure) c + k
       → Route net a t (departureOf c) js → Route net a t (departureOf d) js
   wait-until zero c d js h l s o p r = let q : d ≡ c = omega (arith, sound .few) in rw q r

@@ -1,5 +1,5 @@
--- A graph area that can be read without the notices: its entries; and that what it shows is the network of the notices that
--- stand, wherever it matters. Assumes nothing.
+-- A graph area that can be read without the notices: its entries, and that its arcs lead forward; and that what it shows is the
+-- network of the notices that stand, wherever it matters. Assumes nothing.
 use mathlib.Core.Path.{_≡_, refl, sym, _∙_, ap}
 use mathlib.Core.Logic.{⊎-elim}
 use mathlib.Core.Bool.{Bool, true, false, _&&_}
@@ -14,7 +14,8 @@ use Rattle.timetable.specs.declared.Verdict.the-variants.{Passed}
 use Rattle.model.specs.Least.{none, leastBelow}
 use Rattle.model.specs.Network.{Network, Sound}
 use Rattle.model.specs.Times.{networkOf}
-use Rattle.model.specs.Graph.{waiting, transfer, times, graphOf, departureIn, arrivalIn, waitingIn, transferIn}
+use Rattle.model.specs.Graph as G
+use Rattle.model.specs.Graph.{waiting, transfer, times, graphOf, departureIn, arrivalIn, waitingIn, transferIn, Node, Arc}
 use Rattle.model.specs.Journeys.{canBeFirst, canFollow, arrives}
 use Rattle.model.specs.Predecessors.{reachedIn, choose, rounds, predecessors, arriving, lastTo, nowhere, journeyIn}
 use Rattle.model.specs.Margin.{marginOf}
@@ -22,11 +23,12 @@ use Rattle.model.specs.Day.{Day, Areas}
 use Rattle.model.specs.Drawn.{graphLength, networkBy}
 use Rattle.model.specs.Operations.{answered, searched}
 use Rattle.model.specs.Ready.{Ready}
-use Rattle.model.specs.Shown.{shown, Readable}
+use Rattle.model.specs.Shown.{shown, Readable, AreaArc, aboard, onward, wait, change, connectionOf, Leads}
 use Rattle.model.proofs.ByCases.{by-eq}
 use Rattle.model.proofs.Tab.{tab-same}
 use Rattle.model.proofs.Least.{least-is, least-same}
-use Rattle.model.proofs.Boards.{Agree, waiting-list-same, transfer-list-same, first-list-same}
+use Rattle.model.proofs.Boards.{Listed, nobody, foremost, waiting-listed, transfer-listed, Alike, waiting-list-same, transfer-list-same, first-list-same}
+use Rattle.model.proofs.Arcs.{arcs-forward}
 use Rattle.model.proofs.GraphArea.{length-graph, waiting-within, transfer-within}
 use Rattle.model.proofs.Rounds.{numbered}
 use Rattle.model.proofs.Journeys.{follow-begins, journey-here, journey-there}
@@ -75,13 +77,13 @@ module _ (day : Day) (areas : Areas) (sound-by : Sound (networkBy day areas))
   unfolding networkOf
   few = numbered sound-by
 
-  agree : Agree S N
+  agree : Alike S N
   unfolding networkOf
   agree =
       record {
         stops = refl;
         connections = refl;
-        from = λ c h. refl;
+        boards = λ c h. refl;
         to = λ c h. refl;
         departure = departs;
         ready = λ c b h. rw (comes c h);
@@ -212,3 +214,28 @@ module _ (day : Day) (areas : Areas) (r : Ready day areas) where
   pub margin-shown : (c d : ℕ) → c < connections (day .file) → d < connections (day .file) → marginOf (shown (day .file) (areas .graph)) c d ≡ marginOf (networkBy day areas) c d
   unfolding marginOf networkOf
   margin-shown c d h k = rw (departs d k, comes c h)
+
+-- an entry that is not none names a connection
+entry-names : (net : Network) {P : ℕ → Type 0} {r : ℕ} → Listed net P r → {d : ℕ} → r ≡ d → (d ≡ none → ⊥) → d < net .connections
+entry-names net (nobody q f) e h = absurd (h (sym e ∙ q))
+entry-names net (foremost l p f) e h = rw (← e) l
+
+-- the arcs of an area that can be read lead forward
+module _ (f graph : List ℕ) (r : Readable f graph) where
+  abbrev network : Network
+  network = shown f graph
+
+  forward : {x y : Node} → Arc network x y → connectionOf y < connections f → Leads f graph x y
+  forward {x} {y} arc h = record { exists = h; forward = arcs-forward network (r .sound) x y arc }
+
+  pub arcs-lead : (x y : Node) → AreaArc f graph x y → Leads f graph x y
+  arcs-lead x y (aboard {c} h) = forward (G.connection h) h
+  arcs-lead x y (onward {c} h s) = forward (G.aboard h s) h
+  arcs-lead x y (wait {c} {d} h q k) =
+      let e : waiting network c ≡ d = sym (waiting-shown f graph r c h) ∙ q in
+      let l : d < connections f = entry-names network (waiting-listed network (r .sound) c) e k in
+      forward (G.wait h e l) l
+  arcs-lead x y (change {c} {d} h q k) =
+      let e : transfer network c ≡ d = sym (transfer-shown f graph r c h) ∙ q in
+      let l : d < connections f = entry-names network (transfer-listed network (r .sound) c (network .to c)) e k in
+      forward (G.change h e l) l

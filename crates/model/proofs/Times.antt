@@ -1,7 +1,7 @@
 -- Delays and expected times: what a primary delay is, how a delay is passed on, and that the network of an accepted timetable
 -- with notices within their limits is sound. Assumes nothing.
-use mathlib.Core.Path.{_≡_, refl, _∙_}
-use mathlib.Core.Logic.{_⊎_, inl, inr, ⊎-elim}
+use mathlib.Core.Path.{_≡_, refl, ap, _∙_}
+use mathlib.Core.Logic.{_⊎_, inl, inr, _↔_, ⊎-elim}
 use mathlib.Core.Bool.{true, false}
 use mathlib.Core.List.{List, [], _∷_, List·Memᴰ, List·Memᴰ·head, List·Memᴰ·tail, List·Memᴰ·not-nil, List·Memᴰ·cases-cons}
 use Prim.Native.Nat.{ℕ, zero, suc, _+_, _-_, _<_, _≤_, max}
@@ -88,6 +88,18 @@ module _ (c : ℕ) where
       behind e (inl z) =
           inl (primary-other a ns e ∙ z .0, λ n m f. ⊎-elim (λ q. e (rw q at f)) (λ k. z .1 n k f) (List·Memᴰ·cases-cons m))
       behind e (inr w) = inr (rw (primary-other a ns e) (further w))
+
+-- it depends on which notices there are, not on their order
+pub primary-same : (c : ℕ) (ns ms : List Notice) → ((n : Notice) → List·Memᴰ n ns ↔ List·Memᴰ n ms) → primaryDelay c ns ≡ primaryDelay c ms
+primary-same c ns ms same =
+    let l : primaryDelay c ns ≤ primaryDelay c ms = at-most ns ms (λ n. same n .0) (primary-among c ns) in
+    let k : primaryDelay c ms ≤ primaryDelay c ns = at-most ms ns (λ n. same n .1) (primary-among c ms) in
+    omega arith
+  where
+    at-most : (xs ys : List Notice) → ((n : Notice) → List·Memᴰ n xs → List·Memᴰ n ys)
+        → ((primaryDelay c xs ≡ 0) × NoNoticeOf c xs) ⊎ NoticeOf c (primaryDelay c xs) xs → primaryDelay c xs ≤ primaryDelay c ys
+    at-most xs ys among (inl z) = omega (arith, z .0)
+    at-most xs ys among (inr w) = omega (arith, w .delay, primary-largest c (w .one) ys (among (w .one) (w .stands)) (w .its))
 
 -- without notices there is no delay
 pub primary-none : (c : ℕ) → primaryDelay c [] ≡ 0
@@ -187,3 +199,10 @@ pub network-sound : (day : Day) → Timetable (day .file) → (ns : List Notice)
 unfolding networkOf
 network-sound day table ns rows =
     sound-with (day .file) table (conditionsOf ns) (λ c h. primary-most c (connections (day .file)) 0 ns (rows .ascending))
+
+-- the network of a day depends on which notices there are, not on their order
+pub network-same : (day : Day) (ns ms : List Notice) → ((n : Notice) → List·Memᴰ n ns ↔ List·Memᴰ n ms) → networkOf day ns ≡ networkOf day ms
+unfolding networkOf
+network-same day ns ms same =
+    let e : conditionsOf ns ≡ conditionsOf ms = λ i. record { delay = λ c. primary-same c ns ms same i } in
+    ap (networkWith (day .file)) e

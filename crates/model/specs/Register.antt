@@ -1,18 +1,28 @@
 -- The register of notices (document 01: the book): what a clerk would keep, fed the connection count and the calls' own
--- numbers. Assumes nothing.
-use mathlib.Core.Bool.{cond, not, _&&_}
-use mathlib.Core.List.{List, [], _∷_}
+-- numbers. A notice is entered at the end; the order has no meaning. Assumes nothing.
+use mathlib.Core.Bool.{Bool, false, cond, not, _&&_, _||_}
+use mathlib.Core.List.{List, [], _∷_, _++_}
 use Prim.Native.Nat.{ℕ}
 use lib.Dec.{leb, eqb}
 use lib.ListN.{length}
 use Rattle.timetable.specs.Answers.{Answer, accepted, refused}
 use Rattle.model.specs.RefusalNumber as refusal
-use Rattle.model.specs.Notices.{Notice, notice, room, leastDelay, mostPosted, stands, entered, struck}
+use Rattle.model.specs.Notices.{Notice, notice, room, leastDelay, mostPosted}
 
 -- a call of a run, with its own numbers
 pub data Call : Type 0 where
   posting : ℕ → ℕ → ℕ → Call
   withdrawal : ℕ → Call
+
+-- whether the register has a notice of this number
+unfoldable pub has : ℕ → List Notice → Bool
+has m [] = false
+has m (n ∷ register) = eqb (n .number) m || has m register
+
+-- the register with the notice of this number struck out
+unfoldable pub without : ℕ → List Notice → List Notice
+without m [] = []
+without m (n ∷ register) = cond (eqb (n .number) m) (without m register) (n ∷ without m register)
 
 -- an answer, and the register afterwards
 pub record Step : Type 0 where
@@ -31,13 +41,13 @@ registerStep C register (posting n c d) =
     cond (eqb n 0) (refuse register refusal.noNumber)
     (cond (leb C c) (refuse register refusal.unknownConnection)
     (cond (not (leb leastDelay d && leb d mostPosted)) (refuse register refusal.wrongDelay)
-    (cond (stands n register) (refuse register refusal.standsAlready)
+    (cond (has n register) (refuse register refusal.standsAlready)
     (cond (leb room (length register)) (refuse register refusal.noRoom)
-    (accept (entered (notice n c d) register) n)))))
+    (accept (register ++ (notice n c d ∷ [])) n)))))
 registerStep C register (withdrawal n) =
     cond (eqb n 0) (refuse register refusal.noNumber)
-    (cond (not (stands n register)) (refuse register refusal.notStanding)
-    (accept (struck n register) n))
+    (cond (not (has n register)) (refuse register refusal.notStanding)
+    (accept (without n register) n))
 
 -- the register's answers to a list of calls, and the register after it
 pub record Kept : Type 0 where

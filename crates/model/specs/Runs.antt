@@ -1,19 +1,22 @@
 -- Runs: building, then a list of postings and withdrawals, each of which gets the areas as the call before left them; and the
 -- claim about whole runs (demand 3). Assumes nothing.
 use mathlib.Core.Path.{_≡_}
+use mathlib.Core.Logic.{_↔_}
 use mathlib.Core.Bool.{Bool, true, _&&_, _||_}
-use mathlib.Core.List.{List, [], _∷_}
-use Prim.Native.Nat.{ℕ, _≤_}
+use mathlib.Core.List.{List, [], _∷_, _++_, List·Memᴰ}
+use Prim.Native.Nat.{ℕ, _*_, _-_, _<_, _≤_}
 use lib.Dec.{leb, eqb}
-use lib.ListN.{length}
+use lib.ListN.{length, take, drop, replicate}
 use Rattle.timetable.specs.Answers.{Answer, accepted, refused}
 use Rattle.timetable.specs.File.{connections}
 use Rattle.timetable.specs.Check.{Counts}
 use Rattle.model.specs.RefusalNumber as refusal
-use Rattle.model.specs.Times.{networkOf}
-use Rattle.model.specs.Graph.{Node, Arc, Forward}
+use Rattle.model.specs.Notices.{Notice, width, room, noticesLength, flat}
+use Rattle.model.specs.Graph.{Node}
 use Rattle.model.specs.Day.{Day, Areas}
-use Rattle.model.specs.Operations.{Outcome, written, built, posted, withdrawn, enquired}
+use Rattle.model.specs.Drawn.{graphLength, graphFor}
+use Rattle.model.specs.Shown.{AreaArc, Leads}
+use Rattle.model.specs.Operations.{Outcome, built, posted, withdrawn, enquired}
 use Rattle.model.specs.Register.{Call, posting, withdrawal, Kept, kept}
 
 -- one call
@@ -59,15 +62,43 @@ overAreas n = (leb refusal.shortNotices n && leb n refusal.wrongGraph) || eqb n 
 abbrev pub registerOf : Day → List Call → Kept
 registerOf day calls = kept (connections (day .file)) [] calls
 
--- the claim about a run of a day's calls that began with these areas
-pub record Claim (day : Day) (areas₀ : Areas) (calls : List Call) (r : Run) : Type 0 where
-  -- each call's answer is the register's
-  pub answers : r .answers ≡ registerOf day calls .answers
-  -- the areas are those of the day and the register's notices, and past their stated lengths as they were
-  pub areas : r .areas ≡ written day areas₀ (registerOf day calls .register)
-  -- every arc leads forward
-  pub forward : (x y : Node) → Arc (networkOf day (registerOf day calls .register)) x y
-      → Forward (networkOf day (registerOf day calls .register)) x y
+-- numbers strictly ascending, the first above the number before
+abbrev pub Ascends : ℕ → List Notice → Type 0
+Ascends before [] = Unit {0}
+Ascends before (n ∷ ns) = (before < n .number) × Ascends (n .number) ns
+
+-- a notice area that began as area₀ holds how many notices are in the register, then these ascending by number, then zeros
+pub record NoticesHeld (register : List Notice) (area₀ area : List ℕ) : Type 0 where
+  -- the notices in the order of their rows
+  pub ordered : List Notice
+  pub ascending : Ascends 0 ordered
+  -- a notice has a row exactly if it is in the register, and there are as many rows as notices there
+  pub same-notices : (n : Notice) → List·Memᴰ n ordered ↔ List·Memᴰ n register
+  pub as-many : length ordered ≡ length register
+  pub fits : length register ≤ room
+  -- the count, the rows, and zeros in the rows that are left
+  pub numbers : take noticesLength area ≡ length register ∷ (flat ordered ++ replicate (width * (room - length register)) 0)
+  -- past its stated length the area is as it was
+  pub past : drop noticesLength area ≡ drop noticesLength area₀
+
+-- a graph area that began as area₀ holds the entries that the rules give for the day and the register's notices
+pub record GraphHeld (day : Day) (register : List Notice) (area₀ area : List ℕ) : Type 0 where
+  pub entries : take (graphLength (day .file)) area ≡ graphFor day register
+  -- past its stated length the area is as it was
+  pub past : drop (graphLength (day .file)) area ≡ drop (graphLength (day .file)) area₀
+
+-- areas that began as areas₀, after a run that left this register
+pub record Held (day : Day) (areas₀ : Areas) (register : List Notice) (areas : Areas) : Type 0 where
+  pub notices-held : NoticesHeld register (areas₀ .notices) (areas .notices)
+  pub graph-held : GraphHeld day register (areas₀ .graph) (areas .graph)
+  -- every arc of the graph area, stored or not, leads forward
+  pub arcs : (x y : Node) → AreaArc (day .file) (areas .graph) x y → Leads (day .file) (areas .graph) x y
   -- no enquiry with room for each connection is refused over room, graph or notices
   pub enquiries : (work journey : List ℕ) (a b t n p : ℕ) → connections (day .file) ≤ length work → connections (day .file) ≤ length journey
-      → enquired day (r .areas) work journey a b t .answer ≡ refused n p → overAreas n ≡ true → ⊥
+      → enquired day areas work journey a b t .answer ≡ refused n p → overAreas n ≡ true → ⊥
+
+-- the claim about a run of a day's calls that began with areas₀: its answers, and the areas that it left
+pub record Claim (day : Day) (areas₀ : Areas) (calls : List Call) (answers : List (Answer ℕ)) (areas : Areas) : Type 0 where
+  -- each call's answer is the register's
+  pub answers-are : answers ≡ registerOf day calls .answers
+  pub held : Held day areas₀ (registerOf day calls .register) areas

@@ -110,15 +110,12 @@ take-least (suc k) (suc i) (x ∷ l) h = rw (take-least k i l (omega arith))
 pub front-read : (k : ℕ) (bytes : List ℕ) (i : ℕ) → i ≡ min k (length bytes / 2) → take i (numbersOf bytes) ≡ take k (numbersOf bytes)
 front-read k bytes i h = take-least k i (numbersOf bytes) (omega (arith, length-numbers bytes))
 
--- a front written back, with or without what lies behind it
-pub front-written : (k : ℕ) (front bytes : List ℕ) → length front ≡ min k (length bytes / 2) → Bytes bytes
-    → overBytes front bytes ≡ overBytes (front ++ drop k (numbersOf bytes)) bytes
+-- numbers that differ from an area's own in the first k alone: writing these is writing all
+pub changed-written : (k : ℕ) (ns bytes : List ℕ) → drop k ns ≡ drop k (numbersOf bytes) → Bytes bytes
+    → overBytes (take k ns) bytes ≡ overBytes ns bytes
 unfolding numbersOf overBytes
-front-written zero [] bytes h b = rw (written-read bytes b)
-front-written zero (n ∷ ns) bytes h b = absurd (omega arith)
-front-written (suc k) [] [] h b = refl
-front-written (suc k) [] (x ∷ []) h b = refl
-front-written (suc k) [] (x ∷ y ∷ bytes) h b = absurd (omega arith)
-front-written (suc k) (n ∷ ns) [] h b = refl
-front-written (suc k) (n ∷ ns) (x ∷ []) h b = refl
-front-written (suc k) (n ∷ ns) (x ∷ y ∷ bytes) h b = rw (front-written k ns bytes (omega arith) (λ (i : ℕ). b (suc (suc i))))
+changed-written zero ns bytes h b = rw (h, written-read bytes b)
+changed-written (suc k) [] bytes h b = refl
+changed-written (suc k) (n ∷ ns) [] h b = refl
+changed-written (suc k) (n ∷ ns) (x ∷ []) h b = refl
+changed-written (suc k) (n ∷ ns) (x ∷ y ∷ bytes) h b = rw (changed-written k ns bytes h (λ (i : ℕ). b (suc (suc i))))

@@ -15,7 +15,7 @@ use updates::Update;
 pub extern "C" fn ttg_check(file: &[u8]) -> u64
     ensures { λ r. ⌜ r ≡ codedCounts (checkedAnswer (now (file .entry))) ⌝ }
 {
-    codes::code_counts(timetable::check(file))
+    codes::code_counts(acceptance::check(file))
 }
 
 // An empty notice area and the graph without notices.
@@ -94,5 +94,5 @@ pub extern "C" fn ttg_margin(file: &[u8], notices: &[u8], graph: &[u8], ride: u1
         ≡ codedMargin
         (margined (dayOf (now (file .entry))) (lentBytes (now (notices .entry)) (now (graph .entry))) ride next) ⌝ }
 {
-    enquiries::margin_bytes(file, notices, graph, ride, next)
+    byte_margins::margin_bytes(file, notices, graph, ride, next)
 }

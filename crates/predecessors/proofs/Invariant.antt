@@ -15,7 +15,7 @@ use lib.ListN.{length, getD, replicate, length-replicate, getD-replicate}
 use lib.Seq.{ext-getD}
 use Rattle.model.specs.Least.{none, key}
 use Rattle.model.specs.Network.{Network, Sound}
-use Rattle.model.specs.Graph.{ready, waiting, transfer}
+use Rattle.model.specs.Graph.{board, ready, waiting, transfer}
 use Rattle.model.specs.Journeys.{canBeFirst, canFollow}
 use Rattle.model.specs.Predecessors.{reachedIn, predecessors}
 use Rattle.model.specs.Order.{Slot}
@@ -24,9 +24,9 @@ use Rattle.model.proofs.Follows.{Aboard, Change, follow-means, change-follows, 
 use Rattle.model.proofs.Boards.{change-on, on-change, Behind, waiting-listed, transfer-listed, entry-holds, entry-first}
 use Rattle.model.proofs.Rounds.{length-predecessors, numbered}
 use Rattle.model.proofs.Journeys.{pred, Before, Entry, itself, lowest, nothing, entry}
-use Rattle.predecessors.specs.Visits.{settled, visited, turned}
+use Rattle.visits.specs.Visits.{settled, visited, turned}
 use Rattle.model.proofs.PlaceOrder.{Rises, place-early, place-order, place-le, place-same}
-use Rattle.predecessors.proofs.Steps.{aboard-positive, turn-visits, turn-skips}
+use Rattle.visits.proofs.Steps.{aboard-positive, turn-visits, turn-skips}
 use Rattle.predecessors.proofs.Visited.{Leaves, visited-leaves}
 
 module _ (net : Network) (a t : ℕ) (place : ℕ → ℕ) where
@@ -36,7 +36,7 @@ module _ (net : Network) (a t : ℕ) (place : ℕ → ℕ) where
   -- no connection that could take e's number to c is still to be visited at place i
   abbrev pub Clear : ℕ → ℕ → ℕ → Type 0
   Clear i e c =
-      (d : ℕ) → d < net .connections → net .from d ≡ net .from c → ready net e (net .from d) ≤ net .departure d → place d < place c → place d < i
+      (d : ℕ) → d < net .connections → board net d ≡ board net c → ready net e (board net d) ≤ net .departure d → place d < place c → place d < i
 
   -- e is a connection that ends a valid journey, and one can change from it to c
   abbrev pub Offer : ℕ → ℕ → Type 0
@@ -155,7 +155,7 @@ module _ (net : Network) (a t : ℕ) (place : ℕ → ℕ) where
           let q : d - 1 ≡ e = omega (arith, on .1) in
           let r : reachedIn work (d - 1) ≡ true = lt-ltb (getD work (d - 1) none) none (omega (arith, known (on .0), ap (pred net a t) q, w .1)) in
           rw (and-both (net .staysAboard d) (reachedIn work (d - 1)) (on .0) r) (omega arith))
-          (λ (c : ready net e (net .from d) ≤ net .departure d). omega (arith, low-bound, all-collected e (w .0, w .1, (m .0, c))))
+          (λ (c : ready net e (board net d) ≤ net .departure d). omega (arith, low-bound, all-collected e (w .0, w .1, (m .0, c))))
           (m .1)
 
       -- where d cannot be first that is its predecessor
@@ -254,7 +254,7 @@ module _ (net : Network) (a t : ℕ) (place : ℕ → ℕ) where
             rw q at (left .moved (f .0) (λ e. away (sym e)) (omega (arith, settled-is, o .1)))
 
         -- a number that d held has come to the next departure from d's stop
-        handed : (c e : ℕ) → c < n → suc i ≤ place c → Offer c e → net .from c ≡ net .from d → ready net e (net .from d) ≤ net .departure d → Clear (suc i) e c → getD after c none ≤ e
+        handed : (c e : ℕ) → c < n → suc i ≤ place c → Offer c e → board net c ≡ board net d → ready net e (board net d) ≤ net .departure d → Clear (suc i) e c → getD after c none ≤ e
         handed c e l r o f g z =
             let w = entry-first net sound (waiting-listed net sound d) c l (f, place-order (net .departure) n place few rises d c h l (omega arith)) in
             let u = waits (w .0) in
@@ -265,7 +265,7 @@ module _ (net : Network) (a t : ℕ) (place : ℕ → ℕ) where
             omega (arith, y, all-collected e (o .0, o .1, (sym f ∙ o .2 .0, g)))
 
         -- where d is not between, what was collected stays
-        stayed : (c e : ℕ) → c < n → suc i ≤ place c → place e < i → Offer c e → (net .from d ≡ net .from c → ready net e (net .from d) ≤ net .departure d → ⊥) → Clear (suc i) e c → getD after c none ≤ e
+        stayed : (c e : ℕ) → c < n → suc i ≤ place c → place e < i → Offer c e → (board net d ≡ board net c → ready net e (board net d) ≤ net .departure d → ⊥) → Clear (suc i) e c → getD after c none ≤ e
         stayed c e l r q o out z =
             let y : getD work c none ≤ e = s .collected c e l (omega arith) q o (λ x j f g p. ⊎-elim (λ v. v) (λ v. let u : x ≡ d = same x d j h (v ∙ sym here) in absurd (out (rw u at f) (rw u at g))) (by-last (z x j f g p))) in
             omega (arith, y, left .no-more c l (other c (λ q. omega arith)))
@@ -278,11 +278,11 @@ module _ (net : Network) (a t : ℕ) (place : ℕ → ℕ) where
             ⊎-elim
             (λ f.
             ⊎-elim
-            (λ (g : net .departure d < ready net e (net .from d)). stayed c e l r v o (λ x y. omega arith) z)
-            (λ (g : ready net e (net .from d) ≤ net .departure d). handed c e l r o f g z)
-            (by-lt (net .departure d) (ready net e (net .from d))))
+            (λ (g : net .departure d < ready net e (board net d)). stayed c e l r v o (λ x y. omega arith) z)
+            (λ (g : ready net e (board net d) ≤ net .departure d). handed c e l r o f g z)
+            (by-lt (net .departure d) (ready net e (board net d))))
             (λ f. stayed c e l r v o (λ x y. f (sym x)) z)
-            (by-eq (net .from c) (net .from d)))
+            (by-eq (board net c) (board net d)))
             (λ v. let u : e ≡ d = same e d (o .0) h (v ∙ sym here) in rw u (own c l r (rw u at o) (rw u at z)))
             (by-last q)
 

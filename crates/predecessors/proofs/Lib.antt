@@ -1,5 +1,3 @@
-pub mod Steps
 pub mod Visited
 pub mod Invariant
-pub mod Read
 pub mod Passes

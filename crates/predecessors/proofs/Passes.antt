@@ -17,7 +17,7 @@ use Rattle.model.specs.Graph.{departureIn}
 use Rattle.model.specs.Order.{Ordered}
 use Rattle.model.specs.Predecessors.{predecessors}
 use Rattle.model.specs.Shown.{shown, Readable}
-use Rattle.predecessors.specs.Visits.{turned}
+use Rattle.visits.specs.Visits.{turned}
 use Rattle.predecessors.proofs.Invariant.{Swept, swept-slot, swept-all}
 
 module _ (f graph order : List ℕ) (r : Readable f graph) (o : Ordered (departureIn graph) (connections f) (connections f) order) where

@@ -11,8 +11,8 @@ use Rattle.model.specs.Least.{none}
 use Rattle.model.specs.Network.{Network}
 use Rattle.model.specs.Graph.{waiting, transfer}
 use Rattle.model.proofs.ByCases.{by-lt, by-eq}
-use Rattle.predecessors.specs.Visits.{offered, settled, passedOn, visited}
-use Rattle.predecessors.proofs.Steps.{length-passed-on, length-visited}
+use Rattle.visits.specs.Visits.{offered, settled, passedOn, visited}
+use Rattle.visits.proofs.Steps.{length-passed-on, length-visited}
 
 -- what an offer leaves at c
 offered-at : (l : List ℕ) (x e c : ℕ) → c < length l

@@ -35,7 +35,7 @@ unfolding ran
 length-ran day areas [] = refl
 length-ran day areas (call ∷ calls) = ap suc (length-ran day (called day areas call .areas) calls)
 
-length-told : (told : List (Answer ℕ)) → length (toldNumbers told) ≡ answerWidth * length told
+pub length-told : (told : List (Answer ℕ)) → length (toldNumbers told) ≡ answerWidth * length told
 unfolding toldNumbers
 length-told [] = refl
 length-told (a ∷ more) = omega (arith, length-told more)

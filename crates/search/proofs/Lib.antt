@@ -1,4 +1,2 @@
-pub mod Signed
 pub mod Asked
 pub mod Enquiries
-pub mod Margins

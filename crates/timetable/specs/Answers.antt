@@ -10,6 +10,11 @@ pub data Answer (A : Type 0) : Type 0 where
   accepted : A → Answer A
   refused : ℕ → ℕ → Answer A
 
+-- whether an answer is one of an accepted call
+abbrev pub isAccepted : {A : Type 0} → Answer A → Bool
+isAccepted (accepted values) = true
+isAccepted (refused n p) = false
+
 -- refused with this number and place if the test holds
 abbrev pub refuseIf : Bool → ℕ → ℕ → Verdict
 refuseIf true n p = Refused n p

@@ -3,6 +3,5 @@ pub mod RefusalNumber
 pub mod File
 pub mod Check
 pub mod Room
-pub mod Next
 pub mod Accepted
 pub mod Refusals

@@ -1,4 +1,7 @@
-//! Inputs: a small generator of numbers, and timetables made with it.
+//! Inputs: a small generator of numbers, and timetables and calls made with it.
+
+use crate::calls::{Call, BUILD, CHECK, ENQUIRE, GRAPH, NOTICES, POST, WITHDRAW};
+use crate::rooms::{get, State};
 
 /// SplitMix64.
 #[derive(Clone)]
@@ -61,9 +64,32 @@ pub fn day() -> Style {
     }
 }
 
+/// All departures in one minute, each connection a trip of its own.
+pub fn dense() -> Style {
+    Style {
+        open: 600,
+        span: 1,
+        trip: (1, 1),
+        ride: 15,
+        stay: 0,
+        change: 8,
+        close: 1380,
+    }
+}
+
 /// Any style, with many departures in the same minute among them.
 pub fn style(rng: &mut Rng) -> Style {
     let span = rng.pick(&[1, 5, 20, 100, 1080, 4000]);
+    style_within(rng, span)
+}
+
+/// A style for few connections: so close together that many can follow one another.
+pub fn small_style(rng: &mut Rng) -> Style {
+    let span = rng.pick(&[1, 5, 20, 60]);
+    style_within(rng, span)
+}
+
+fn style_within(rng: &mut Rng, span: usize) -> Style {
     let low = rng.range(1, 5);
     Style {
         open: rng.pick(&[0, 0, 300, 4319 - span.min(4318)]),
@@ -110,4 +136,120 @@ pub fn timetable(rng: &mut Rng, s: usize, c: usize, style: &Style) -> Vec<u8> {
         left -= 1;
     }
     out
+}
+
+/// Stops and connections, at most so many of these.
+pub fn sizes(rng: &mut Rng, most: usize) -> (usize, usize) {
+    let c = match rng.below(20) {
+        0 => 0,
+        1..=9 => rng.range(1, 12),
+        10..=13 => rng.range(1, 60),
+        14..=16 => rng.range(1, 300),
+        17 | 18 => rng.range(1, 2000),
+        _ => rng.pick(&[2000, 2000, 1999, 1024, 1023, 512, 125]),
+    };
+    let c = c.min(most);
+    let s = match rng.below(10) {
+        0..=5 => rng.range(2, 6),
+        6 => 2 + c / 8,
+        7 => rng.range(2, 60),
+        8 => rng.range(2, 500),
+        _ => rng.pick(&[500, 499, 2]),
+    };
+    (if c == 0 && rng.chance(40) { 1 } else { s }, c)
+}
+
+/// Few stops, and at most so many connections.
+pub fn small_sizes(rng: &mut Rng, most: usize) -> (usize, usize) {
+    let c = if rng.chance(3) { 0 } else { rng.range(1, most) };
+    let s = if rng.chance(95) { rng.range(2, 5) } else { 500 };
+    (if c == 0 && rng.chance(40) { 1 } else { s }, c)
+}
+
+/// A delay within its limits.
+pub fn delay(rng: &mut Rng) -> u16 {
+    match rng.below(10) {
+        0..=3 => rng.range(1, 5) as u16,
+        4..=6 => rng.range(1, 60) as u16,
+        7 => rng.range(1, 1440) as u16,
+        _ => rng.pick(&[1, 1439, 1440, 360]),
+    }
+}
+
+/// A connection, now and then one that is not there.
+fn ride(rng: &mut Rng, c: usize) -> u16 {
+    match rng.below(25) {
+        0 => rng.pick(&[c as u16, c as u16 + 1, 65535, 2000, 2048]),
+        _ => rng.below(c.max(1)) as u16,
+    }
+}
+
+/// A notice number: in `known` of a hundred cases one that stands.
+fn number(rng: &mut Rng, x: &State, known: usize, pool: usize) -> u16 {
+    let notices = &x.areas[NOTICES];
+    let standing = match notices.len() {
+        1202.. => usize::from(notices.num(0)).min(200),
+        _ => 0,
+    };
+    match rng.below(100) {
+        0..=2 => 0,
+        3..=4 => 65535,
+        n if n < known && standing > 0 => notices.num(1 + 3 * rng.below(standing)),
+        _ => rng.range(1, pool) as u16,
+    }
+}
+
+fn stop(rng: &mut Rng, s: usize) -> u16 {
+    match rng.below(30) {
+        0 => rng.pick(&[s as u16, s as u16 + 1, 65535]),
+        _ => rng.below(s) as u16,
+    }
+}
+
+/// A time for an enquiry, mostly around one in the graph area.
+fn time(rng: &mut Rng, x: &State) -> u16 {
+    let (graph, c) = (&x.areas[GRAPH], x.c);
+    match rng.below(20) {
+        0 => rng.pick(&[5759, 5760, 5761, 65535]),
+        1..=3 => rng.below(5760) as u16,
+        4..=7 => 0,
+        _ if c > 0 && graph.len() >= 4 * c => graph
+            .num(rng.below(2 * c))
+            .wrapping_add(rng.below(3) as u16)
+            .wrapping_sub(1),
+        _ => rng.below(100) as u16,
+    }
+}
+
+/// A call of an operation on this state; numbers of new notices are at most `pool`.
+pub fn call_of(operation: usize, rng: &mut Rng, x: &State, pool: usize) -> Call {
+    let (s, c) = (x.s, x.c);
+    match operation {
+        CHECK => Call::Check,
+        BUILD => Call::Build,
+        POST => {
+            let delay = match rng.below(20) {
+                0 => rng.pick(&[0, 1441, 65535]),
+                _ => delay(rng),
+            };
+            Call::Post(number(rng, x, 15, pool), ride(rng, c), delay)
+        }
+        WITHDRAW => Call::Withdraw(number(rng, x, 60, pool)),
+        ENQUIRE => Call::Enquire(stop(rng, s), stop(rng, s), time(rng, x)),
+        _ => {
+            let a = ride(rng, c);
+            let mut b = ride(rng, c);
+            // Mostly connections that meet: one is looked for in the file's own numbers.
+            if usize::from(a) < c && rng.chance(70) && x.file.len() >= 9 + 2 * s + 10 * c {
+                let field = |r: usize, k: usize| get(x.file.area(), 9 + 2 * s + 10 * r + 2 * k);
+                let to = field(a.into(), 2);
+                let start = rng.below(c);
+                let mut rides = (0..c).map(|i| (i + start) % c);
+                if let Some(r) = rides.find(|&r| field(r, 1) == to) {
+                    b = r as u16;
+                }
+            }
+            Call::Margin(a, b)
+        }
+    }
 }

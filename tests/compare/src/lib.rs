@@ -1,11 +1,9 @@
-//! The rules for timetable files, notices, graph, enquiries and margins, written twice and
-//! independently of the library: `model` is the fast one, `plain` the obvious one. `harness`
-//! compares any two sides call by call; `ffi` (feature `panel`) is the library's side.
+//! The library and two independent implementations of document 01, compared call by call. See
+//! README.md.
 
+pub mod calls;
+pub mod damage;
 pub mod gen;
 pub mod harness;
-pub mod model;
-pub mod plain;
-
-#[cfg(feature = "panel")]
-pub mod ffi;
+pub mod rooms;
+pub mod sides;

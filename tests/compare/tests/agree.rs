@@ -1,13 +1,15 @@
-//! The fast implementation against the plain one, and the plain one against all journeys.
+//! The Rust implementations against each other, and how much choice the small timetables give.
 
+use compare::calls::Side;
 use compare::gen::{self, Rng};
-use compare::harness::{Tester, CALLS, FAST, PLAIN};
-use compare::plain;
+use compare::harness::{Sizes, Tester};
+use compare::sides::sentences::{read, times, Enquiry, Notice};
+use compare::sides::{BY_LAST, FAST, SENTENCES};
 
-fn agree(seeds: std::ops::Range<u64>, most: usize) -> Tester<'static> {
-    let mut t = Tester::new(&FAST, &PLAIN);
+fn agree(sides: &[&'static Side], seeds: std::ops::Range<u64>, sizes: Sizes) -> Tester {
+    let mut t = Tester::new(sides);
     for seed in seeds {
-        t.round(seed, most);
+        t.round(seed, sizes);
     }
     assert_eq!(t.failed, 0, "{:#?}", t.notes);
     t
@@ -15,120 +17,69 @@ fn agree(seeds: std::ops::Range<u64>, most: usize) -> Tester<'static> {
 
 #[test]
 fn small_timetables_and_all_refusals() {
-    let t = agree(0..700, 60);
-    // Each call gives each of its refusals, and accepts.
-    let file = 0..=11;
-    let state: Vec<usize> = file.clone().chain([21, 22, 23, 24]).collect();
-    let with = |more: &[usize]| [&state[..], more].concat();
-    let expected = [
-        file.clone().collect(),
-        file.chain([21, 22]).collect(),
-        with(&[12, 13, 14, 25, 26]),
-        with(&[12, 27]),
-        with(&[15, 16, 28, 29, 30]),
-        with(&[13, 17]),
-    ];
-    for (kind, mut list) in expected.into_iter().enumerate() {
-        list.sort();
-        let seen: Vec<usize> = (0..31).filter(|&n| t.seen[kind][n] > 0).collect();
-        assert_eq!(seen, list, "{}", CALLS[kind]);
-    }
+    let mut t = agree(&[&FAST, &BY_LAST, &SENTENCES], 0..400, Sizes::Small(12));
+    t.count_answers();
+    assert_eq!(t.failed, 0, "{:#?}", t.notes);
 }
 
 #[test]
-fn larger_timetables() {
-    agree(10_000..10_100, 300);
+fn timetables_of_60_connections() {
+    agree(&[&FAST, &BY_LAST], 5_000..5_300, Sizes::Any(60));
 }
 
 #[test]
-fn largest_timetables() {
-    // Seeds whose timetables have more than a thousand rides are among these.
-    agree(20_000..20_012, 2000);
+fn timetables_of_300_connections() {
+    agree(&[&FAST, &BY_LAST], 10_000..10_100, Sizes::Any(300));
 }
 
 #[test]
-fn plain_answer_is_the_first_of_all_journeys() {
-    let mut rng = Rng(7);
-    let (mut answers, mut several) = (0, 0);
+fn timetables_of_2000_connections() {
+    // Seeds whose timetables have more than a thousand connections are among these.
+    agree(&[&FAST, &BY_LAST], 20_000..20_012, Sizes::Any(2000));
+}
+
+/// The answers are decided by the arrival alone, by the order too, and by how soon a list stops,
+/// often enough to tell a wrong choice.
+#[test]
+fn small_timetables_give_choice() {
+    let rng = &mut Rng(7);
+    let (mut several, mut tied, mut sooner) = (0, 0, 0);
     for _ in 0..3000 {
-        let (s, c) = (rng.range(2, 4), rng.range(1, 9));
-        let style = gen::Style {
-            span: rng.pick(&[3, 10, 30]),
-            open: 0,
-            ..gen::style(&mut rng)
-        };
-        let file = gen::timetable(&mut rng, s, c, &style);
-        let (mut notices, mut graph) = (vec![0; 1202], vec![0; 2 * (4 * c + s)]);
-        plain::build(&file, &mut notices, &mut graph);
-        let t = plain::read(&file).unwrap();
-        let mut list = Vec::new();
-        for number in 1..=rng.below(4) {
-            let n = plain::Notice {
+        let (s, c) = gen::small_sizes(rng, 12);
+        let style = gen::small_style(rng);
+        let file = gen::timetable(rng, s, c, &style);
+        let t = read(&file).expect("a right file");
+        let notices: Vec<Notice> = (0..rng.below(4).min(c))
+            .map(|number| Notice {
                 number,
                 ride: rng.below(c),
                 delay: rng.range(1, 9),
-            };
-            plain::post(
-                &file,
-                &mut notices,
-                &mut graph,
-                number as u16,
-                n.ride as u16,
-                n.delay as u16,
-            );
-            list.push(n);
-        }
-        let times = plain::times(&t, &list);
-        let (from, to, time) = (rng.below(s), rng.below(s), rng.below(20));
-        // All valid journeys, each as its list read from the end.
-        let mut all: Vec<Vec<usize>> = Vec::new();
-        let mut open: Vec<Vec<usize>> = (0..c)
-            .filter(|&d| t.rides[d].from == from && times[d].0 >= time)
-            .map(|d| vec![d])
+            })
             .collect();
-        while let Some(l) = open.pop() {
-            for d in 0..c {
-                if plain::can_follow(&t, &times, l[0], d) {
-                    open.push([&[d], &l[..]].concat());
-                }
-            }
-            all.push(l);
-        }
-        let mut work = vec![65535; c];
-        for l in &all {
-            let before = l.get(1).copied().unwrap_or(l[0]);
-            let first = t.rides[l[0]].from == from && times[l[0]].0 >= time;
-            work[l[0]] = if first { l[0] } else { before.min(work[l[0]]) };
-        }
-        let best = all
-            .iter()
-            .filter(|l| t.rides[l[0]].to == to)
-            .map(|l| (times[l[0]].1, l.clone()))
-            .min();
-        several += usize::from(all.len() > 5);
-        let (mut w, mut j) = (vec![0; 2 * c], vec![0xee; 2 * c]);
-        let (a, b, at) = (from as u16, to as u16, time as u16);
-        let answer = plain::enquire(&file, &notices, &graph, &mut w, &mut j, a, b, at);
-        let nums = |b: &[u8]| -> Vec<usize> {
-            b.chunks(2)
-                .map(|b| b[0] as usize + 256 * b[1] as usize)
-                .collect()
+        let times = times(&t, &notices);
+        let q = Enquiry {
+            timetable: &t,
+            times: &times,
+            from: rng.below(s),
+            time: style.open,
         };
-        assert_eq!(nums(&w), work);
-        let mut journey = vec![0xeeee; c];
-        let expected = if from == to {
-            65536 * time
-        } else if let Some((arrival, l)) = best {
-            for (i, &d) in l.iter().rev().enumerate() {
-                journey[i] = d;
-            }
-            answers += 1;
-            65536 * (arrival + 65536 * l.len())
-        } else {
-            30
+        let to = rng.below(s);
+        let all = q.journeys();
+        let Some((arrival, best)) = q.best(&all, to) else {
+            continue;
         };
-        assert_eq!(answer, expected as u64);
-        assert_eq!(nums(&j), journey);
+        let there = all.iter().filter(|list| t.rides[list[0]].to == to);
+        let first: Vec<_> = there
+            .clone()
+            .filter(|list| times[list[0]].1 == arrival)
+            .collect();
+        several += usize::from(there.count() > first.len());
+        tied += usize::from(first.len() > 1);
+        let longer = |list: &Vec<usize>| list.len() > best.len() && list[0] == best[best.len() - 1];
+        sooner += usize::from(first.iter().any(|list| longer(list)));
     }
-    assert!(answers > 500 && several > 500, "{answers} {several}");
+    assert!(
+        several > 200 && tied > 200 && sooner > 100,
+        "{several} {tied} {sooner}"
+    );
 }

@@ -1,6 +1,9 @@
-//! Example J: the seven commands, the instances, and the limits, on both implementations.
+//! Example J: the seven commands, the instances, and the limits, on every side.
 
-use compare::harness::{Side, FAST, PLAIN};
+use compare::calls::{Call, Side};
+#[cfg(feature = "panel")]
+use compare::sides::LIBRARY;
+use compare::sides::{BY_LAST, FAST, SENTENCES};
 
 const CHANGE: [u16; 3] = [4, 5, 3];
 const RIDES: [[u16; 5]; 5] = [
@@ -49,11 +52,9 @@ impl Desk {
             journey: vec![0xaa; 2 * c],
             opening: String::new(),
         };
-        let a = (side.build)(&d.file, &mut d.notices, &mut d.graph);
-        assert_eq!(a, (side.check)(&d.file));
-        d.opening = line(a as i64, |v| {
-            format!("stops {} rides {}", v % 65536, v / 65536)
-        });
+        let a = d.call(Call::Build);
+        assert_eq!(a, d.call(Call::Check));
+        d.opening = line(a, |v| format!("stops {} rides {}", v % 65536, v / 65536));
         d
     }
 
@@ -61,33 +62,40 @@ impl Desk {
         Desk::open(side, &CHANGE, &RIDES)
     }
 
+    fn call(&mut self, call: Call) -> i64 {
+        let areas = [
+            &mut self.notices[..],
+            &mut self.graph,
+            &mut self.work,
+            &mut self.journey,
+        ];
+        (self.side.call)(&self.file, areas, call)
+    }
+
     fn p(&mut self, number: u16, ride: u16, delay: u16) -> String {
-        let (f, n, g) = (&self.file, &mut self.notices, &mut self.graph);
-        let a = (self.side.post)(f, n, g, number, ride, delay);
-        line(a as i64, |v| format!("posted {v}"))
+        line(self.call(Call::Post(number, ride, delay)), |v| {
+            format!("posted {v}")
+        })
     }
 
     fn w(&mut self, number: u16) -> String {
-        let (f, n, g) = (&self.file, &mut self.notices, &mut self.graph);
-        line((self.side.withdraw)(f, n, g, number) as i64, |v| {
+        line(self.call(Call::Withdraw(number)), |v| {
             format!("withdrawn {v}")
         })
     }
 
     fn q(&mut self, from: u16, to: u16, time: u16) -> String {
-        let (f, n, g) = (&self.file, &self.notices, &self.graph);
-        let (w, l) = (&mut self.work, &mut self.journey);
-        let a = (self.side.enquire)(f, n, g, w, l, from, to, time);
-        line(a as i64, |v| {
+        line(self.call(Call::Enquire(from, to, time)), |v| {
             let rides = nums(&self.journey)[..(v / 65536) as usize].to_vec();
             let list: Vec<String> = rides.iter().map(|r| format!(" {r}")).collect();
             format!("arrives {} by{}", v % 65536, list.concat())
         })
     }
 
-    fn m(&self, ride: u16, next: u16) -> String {
-        let a = (self.side.margin)(&self.file, &self.notices, &self.graph, ride, next);
-        line(a, |v| format!("margin {v}"))
+    fn m(&mut self, ride: u16, next: u16) -> String {
+        line(self.call(Call::Margin(ride, next)), |v| {
+            format!("margin {v}")
+        })
     }
 
     /// Departure and arrival in force.
@@ -104,14 +112,17 @@ fn line(answer: i64, accepted: impl Fn(i64) -> String) -> String {
     }
 }
 
-fn both(test: impl Fn(&'static Side)) {
+fn each(test: impl Fn(&'static Side)) {
+    #[cfg(feature = "panel")]
+    test(&LIBRARY);
     test(&FAST);
-    test(&PLAIN);
+    test(&SENTENCES);
+    test(&BY_LAST);
 }
 
 #[test]
 fn seven_commands() {
-    both(|side| {
+    each(|side| {
         let mut d = Desk::j(side);
         let lines = [
             d.opening.clone(),
@@ -135,7 +146,7 @@ fn seven_commands() {
 
 #[test]
 fn graph_without_notices() {
-    both(|side| {
+    each(|side| {
         let expected = [
             600, 620, 625, 640, 622, 650, 655, 690, 630, 642, // times
             65535, 4, 1, 65535, 65535, // waiting
@@ -150,7 +161,7 @@ fn graph_without_notices() {
 
 #[test]
 fn work_area() {
-    both(|side| {
+    each(|side| {
         let mut d = Desk::j(side);
         assert_eq!(d.q(0, 2, 595), "arrives 640 by 0 1");
         assert_eq!(nums(&d.work), [0, 0, 65535, 1, 0]);
@@ -160,7 +171,7 @@ fn work_area() {
 
 #[test]
 fn delay_within_the_stay_is_used_up() {
-    both(|side| {
+    each(|side| {
         let mut d = Desk::j(side);
         assert_eq!(d.p(1, 0, 5), "posted 1");
         assert_eq!(d.times(1)[0], 625);
@@ -172,22 +183,26 @@ fn delay_within_the_stay_is_used_up() {
 
 #[test]
 fn largest_notice_decides() {
-    both(|side| {
-        for order in [[(1, 6), (2, 20)], [(2, 20), (1, 6)]] {
-            let mut d = Desk::j(side);
-            for (number, delay) in order {
-                assert_eq!(d.p(number, 0, delay), format!("posted {number}"));
+    each(|side| {
+        // Either posted first, either with the lower number.
+        for (six, twenty) in [(3, 7), (7, 3)] {
+            for first in [(six, 6), (twenty, 20)] {
+                let mut d = Desk::j(side);
+                let second = if first.1 == 6 { (twenty, 20) } else { (six, 6) };
+                for (number, delay) in [first, second] {
+                    assert_eq!(d.p(number, 0, delay), format!("posted {number}"));
+                }
+                assert_eq!(d.times(0)[0], 620);
+                assert_eq!(d.w(twenty), format!("withdrawn {twenty}"));
+                assert_eq!(d.times(0)[0], 606);
             }
-            assert_eq!(d.times(0)[0], 620);
-            assert_eq!(d.w(2), "withdrawn 2");
-            assert_eq!(d.times(0)[0], 606);
         }
     });
 }
 
 #[test]
 fn last_minute_and_too_late() {
-    both(|side| {
+    each(|side| {
         let mut d = Desk::j(side);
         assert_eq!(d.q(0, 2, 600), "arrives 640 by 0 1");
         assert_eq!(d.q(0, 2, 601), "no 30 at 0");
@@ -197,7 +212,7 @@ fn last_minute_and_too_late() {
 
 #[test]
 fn empty_journey() {
-    both(|side| {
+    each(|side| {
         let mut d = Desk::j(side);
         assert_eq!(d.q(1, 1, 700), "arrives 700 by");
         assert_eq!(nums(&d.work), [65535; 5]);
@@ -209,7 +224,7 @@ fn empty_journey() {
 
 #[test]
 fn limits() {
-    both(|side| {
+    each(|side| {
         assert_eq!(
             Desk::open(side, &[4, 60, 3], &RIDES).opening,
             "stops 3 rides 5"
@@ -243,7 +258,7 @@ fn limits() {
 
 #[test]
 fn margin_at_both_ends() {
-    both(|side| {
+    each(|side| {
         // The earliest departure and the latest arrival with most change minutes.
         let rides = [
             [0, 1, 0, 0, 1],

@@ -1,7 +1,6 @@
 -- `enquiries::enquire_fronts` meets its contract: an enquiry on the fronts leaves what it leaves of the areas. Assumes nothing.
-use mathlib.Core.Path.{_∙_}
-use Rattle.model.specs.Day.{dayOf}
-use Rattle.enquiries.proofs.Enquired.{enquiry-written}
+use Rattle.model.specs.Day.{dayOf, lent}
+use Rattle.enquiries.proofs.Enquired.{enquiry-changes, found-room, enquiry-written}
 use borrow.Author.Needs.{needs}
 use Rattle.enquiries.proofs.enquire_fronts.Statement.{statement}
 use Rattle.enquiries.proofs.enquire_fronts.Tie as tie
@@ -15,8 +14,11 @@ read-both-requires-2 c κs = search needs
 enquire-requires : tie.Need-enquire-requires
 enquire-requires c κs = search needs
 
-write-both-requires : tie.Need-write-both-requires
-write-both-requires c κs = search needs
+write-found-requires : tie.Need-write-found-requires
+write-found-requires c κs =
+    let e = c .before .before .before .before .before .before .before .before in
+    found-room
+    (enquiry-changes (dayOf _) (lent _ _) _ _ _ _ _ _ _ _ (e .enquire .kept .1 .1 .1 .0) (e .enquire .kept .1 .1 .1 .1 .0) (e .enquire .ensures .is))
 
 code-arrival-requires : tie.Need-code-arrival-requires
 code-arrival-requires c κs = search needs
@@ -47,12 +49,13 @@ returns c =
     let r = q .before .before .before .before .before .before .before .before .before in
     let known = r .before .before .before .before .before .before .before in
     let s = known .before .before .before .before .before in
-    enquiry-written (s .pre .0) (r .read-both .ensures) (s .pre .1)
-    (dayOf (s .args .file .now)) (s .args .from) (s .args .to) (s .args .time)
+    let d = dayOf (s .args .file .now) in
+    enquiry-written (s .pre .0) (r .read-both .ensures) (s .pre .1) d (s .args .from) (s .args .to) (s .args .time)
     (λ i. known .before .slice-known .given i .fits) (λ i. known .slice-known2 .given i .fits)
     (q .read-both2 .ensures) (e .enquire .ensures .is)
-    (e .enquire .kept .1 .1 .1 .0 ∙ q .read-both2 .kept .1 .1 .0) (e .enquire .kept .1 .1 .1 .1 .0 ∙ q .read-both2 .kept .1 .1 .1 .0)
-    (w .write-both .ensures) (c .code-arrival .ensures)
+    (enquiry-changes d (lent _ _) _ _ _ _ _ _ _ _
+    (e .enquire .kept .1 .1 .1 .0) (e .enquire .kept .1 .1 .1 .1 .0) (e .enquire .ensures .is))
+    (w .write-found .ensures) (c .code-arrival .ensures)
 
 pub enquire-fronts-spec : {M : Type 1} → statement M
 enquire-fronts-spec =
@@ -61,7 +64,7 @@ enquire-fronts-spec =
     read-both-requires
     read-both-requires-2
     enquire-requires
-    write-both-requires
+    write-found-requires
     code-arrival-requires
     same-length
     same-length-2

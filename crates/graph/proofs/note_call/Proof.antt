@@ -1,6 +1,6 @@
 -- `graph::note_call` meets its contract. Assumes nothing.
 use Rattle.model.specs.Notices.{rowsOf}
-use Rattle.checks.proofs.Passed.{posting-fits, withdrawal-stands}
+use Rattle.model.proofs.Asked.{posting-fits, withdrawal-stands}
 use borrow.Author.Needs.{needs}
 use Rattle.graph.proofs.note_call.Statement.{statement}
 use Rattle.graph.proofs.note_call.Tie as tie

@@ -1,7 +1,6 @@
 -- `updates::update_fronts` meets its contract: an update of the fronts leaves what it leaves of the areas. Assumes nothing.
-use mathlib.Core.Path.{_∙_}
-use Rattle.model.specs.Day.{dayOf}
-use Rattle.updates.proofs.Updated.{update-written}
+use Rattle.model.specs.Day.{dayOf, lent}
+use Rattle.updates.proofs.Updated.{update-changes, write-room, update-written}
 use borrow.Author.Needs.{needs}
 use Rattle.updates.proofs.update_fronts.Statement.{statement}
 use Rattle.updates.proofs.update_fronts.Tie as tie
@@ -12,8 +11,11 @@ read-both-requires c κs = search needs
 update-numbers-requires : tie.Need-update-numbers-requires
 update-numbers-requires c κs = search needs
 
-write-both-requires : tie.Need-write-both-requires
-write-both-requires c κs = search needs
+write-back-requires : tie.Need-write-back-requires
+write-back-requires c κs =
+    let u = c .before .before .before .before .before .before .before .before in
+    write-room
+    (update-changes (dayOf _) (lent _ _) (lent _ _) (u .update-numbers .kept .1 .0) (u .update-numbers .kept .1 .1 .0) _ (u .update-numbers .ensures))
 
 same-length : tie.Need-same-length
 same-length c = search needs
@@ -34,11 +36,12 @@ returns c =
     let r = u .before .before .before .before .before .before .before in
     let known = r .before .before .before .before .before .before .before in
     let s = known .before .before .before in
-    update-written (s .pre) (dayOf (s .args .file .now)) (s .args .update)
+    let d = dayOf (s .args .file .now) in
+    update-written (s .pre) d (s .args .update)
     (λ i. known .before .slice-known .given i .fits) (λ i. known .slice-known2 .given i .fits)
     (r .read-both .ensures) (u .update-numbers .ensures)
-    (u .update-numbers .kept .1 .0 ∙ r .read-both .kept .1 .1 .0) (u .update-numbers .kept .1 .1 .0 ∙ r .read-both .kept .1 .1 .1 .0)
-    (w .write-both .ensures)
+    (update-changes d (lent _ _) (lent _ _) (u .update-numbers .kept .1 .0) (u .update-numbers .kept .1 .1 .0) (s .args .update) (u .update-numbers .ensures))
+    (w .write-back .ensures)
 
 pub update-fronts-spec : {M : Type 1} → statement M
 update-fronts-spec =
@@ -46,7 +49,7 @@ update-fronts-spec =
     (tie.spec
     read-both-requires
     update-numbers-requires
-    write-both-requires
+    write-back-requires
     same-length
     same-length-2
     same-length-3

@@ -1,7 +1,7 @@
 -- `updates::update_numbers` meets its contract: each kind of update by what the graph layer ensures, with its answer as a number.
 -- Assumes nothing.
 use Rattle.codes.specs.Encoded.{coded, codedCounts}
-use Rattle.updates.proofs.Updated.{coded-outcome}
+use Rattle.updates.proofs.Updated.{coded-outcome, told-outcome}
 use borrow.Author.Needs.{needs}
 use Rattle.updates.proofs.update_numbers.Statement.{statement}
 use Rattle.updates.proofs.update_numbers.Tie as tie
@@ -12,8 +12,8 @@ enum-told c = search needs
 build-requires : tie.Need-build-requires
 build-requires c κs = search needs
 
-code-counts-requires : tie.Need-code-counts-requires
-code-counts-requires c κs = search needs
+worked-counts-requires : tie.Need-worked-counts-requires
+worked-counts-requires c κs = search needs
 
 enum-known-update : tie.Need-enum-known-update
 enum-known-update c = search needs
@@ -21,8 +21,8 @@ enum-known-update c = search needs
 post-requires : tie.Need-post-requires
 post-requires c κs = search needs
 
-code-noted-requires : tie.Need-code-noted-requires
-code-noted-requires c κs = search needs
+worked-noted-requires : tie.Need-worked-noted-requires
+worked-noted-requires c κs = search needs
 
 enum-known-update-2 : tie.Need-enum-known-update-2
 enum-known-update-2 c = search needs
@@ -30,8 +30,8 @@ enum-known-update-2 c = search needs
 withdraw-requires : tie.Need-withdraw-requires
 withdraw-requires c κs = search needs
 
-code-noted-requires-2 : tie.Need-code-noted-requires-2
-code-noted-requires-2 c κs = search needs
+worked-noted-requires-2 : tie.Need-worked-noted-requires-2
+worked-noted-requires-2 c κs = search needs
 
 same-length : tie.Need-same-length
 same-length c = search needs
@@ -42,7 +42,10 @@ same-length-2 c = search needs
 returns : tie.Need-returns
 returns c =
     let k = c .before .before .before .before .before in
-    rw (k .before .before .before .enum-told .given .1) (coded-outcome codedCounts (c .code-counts .ensures) (k .build .ensures))
+    rw (k .before .before .before .enum-told .given .1) (record {
+      outcome = coded-outcome codedCounts (c .worked-counts .ensures .0) (k .build .ensures);
+      told = told-outcome (c .worked-counts .ensures .1) (k .build .ensures);
+    })
 
 same-length-3 : tie.Need-same-length-3
 same-length-3 c = search needs
@@ -53,7 +56,10 @@ same-length-4 c = search needs
 returns-2 : tie.Need-returns-2
 returns-2 c =
     let k = c .before .before .before .before .before in
-    rw (k .before .before .before .before .update .given .1) (coded-outcome coded (c .code-noted .ensures) (k .post .ensures))
+    rw (k .before .before .before .before .update .given .1) (record {
+      outcome = coded-outcome coded (c .worked-noted .ensures .0) (k .post .ensures);
+      told = told-outcome (c .worked-noted .ensures .1) (k .post .ensures);
+    })
 
 same-length-5 : tie.Need-same-length-5
 same-length-5 c = search needs
@@ -64,7 +70,10 @@ same-length-6 c = search needs
 returns-3 : tie.Need-returns-3
 returns-3 c =
     let k = c .before .before .before .before .before in
-    rw (k .before .before .before .before .update2 .given .1) (coded-outcome coded (c .code-noted2 .ensures) (k .withdraw .ensures))
+    rw (k .before .before .before .before .update2 .given .1) (record {
+      outcome = coded-outcome coded (c .worked-noted2 .ensures .0) (k .withdraw .ensures);
+      told = told-outcome (c .worked-noted2 .ensures .1) (k .withdraw .ensures);
+    })
 
 pub update-numbers-spec : {M : Type 1} → statement M
 update-numbers-spec =
@@ -72,13 +81,13 @@ update-numbers-spec =
     (tie.spec
     enum-told
     build-requires
-    code-counts-requires
+    worked-counts-requires
     enum-known-update
     post-requires
-    code-noted-requires
+    worked-noted-requires
     enum-known-update-2
     withdraw-requires
-    code-noted-requires-2
+    worked-noted-requires-2
     same-length
     same-length-2
     returns

@@ -1,23 +1,48 @@
 //! bench [SAMPLES]: microseconds of the library and of the fast implementation, interleaved: calls
-//! with one timetable, then with sixteen in turn.
-//! bench one OP C NOTICES SIDE REPEATS: one operation alone, for instruction counts; the
+//! with one timetable, then with sixteen in turn; the same with all departures in one minute.
+//! bench one SHAPE OP C NOTICES SIDE REPEATS: one operation alone, for instruction counts; the
 //! difference of two repeat counts is the cost of the repeats between. Before each posting or
-//! withdrawal both areas are copied back; OP `restore` is that copying alone.
+//! withdrawal both areas are copied back; OP `restore` is that copying alone. SHAPE is `day` or
+//! `dense`, SIDE `library` or `rust`.
 //! bench operations: their names.
 
-use compare::ffi::PANEL;
-use compare::gen::{day, timetable, Rng};
-use compare::harness::{Call, Side, CALLS, FAST};
+use compare::calls::{Call, Side, BUILD, CHECK, ENQUIRE, OPERATIONS, POST, WITHDRAW};
+use compare::gen::{day, dense, timetable, Rng, Style};
+use compare::sides::{FAST, LIBRARY};
 use std::hint::black_box;
 use std::process::ExitCode;
 use std::time::Instant;
 
 const SIZES: [usize; 5] = [125, 250, 500, 1000, 2000];
 const STANDING: [usize; 3] = [0, 3, 200];
+/// Connections where all leave in one minute.
+const DENSE_SIZE: usize = 2000;
+/// Calls of each operation in a sample with one timetable.
+const REPEATS: [usize; OPERATIONS.len()] = [4, 2, 1, 1, 2, 2];
 /// The number that is posted and withdrawn; it sorts into the middle of the others.
 const NUMBER: u16 = 30_000;
 /// How many timetables are called in turn.
 const TIMETABLES: usize = 16;
+
+/// What kind of timetable is measured.
+struct Shape {
+    name: &'static str,
+    style: fn() -> Style,
+    /// Enquiries are from 05:00 to this minute.
+    latest: usize,
+}
+
+static DAY: Shape = Shape {
+    name: "day",
+    style: day,
+    latest: 720,
+};
+
+static DENSE: Shape = Shape {
+    name: "dense",
+    style: dense,
+    latest: 600,
+};
 
 #[derive(Clone)]
 struct Areas {
@@ -35,13 +60,14 @@ impl Areas {
             &mut self.work,
             &mut self.journey,
         ];
-        side.call(file, areas, call)
+        (side.call)(file, areas, call)
     }
 }
 
 /// A timetable and the areas that calls with it work on.
 #[derive(Clone)]
 struct Setup {
+    shape: &'static Shape,
     file: Vec<u8>,
     s: usize,
     c: usize,
@@ -54,10 +80,10 @@ struct Setup {
 }
 
 impl Setup {
-    fn new(c: usize, standing: usize, seed: u64) -> Setup {
+    fn new(shape: &'static Shape, c: usize, standing: usize, seed: u64) -> Setup {
         let s = (c / 8).max(2);
         let mut rng = Rng(seed);
-        let file = timetable(&mut rng, s, c, &day());
+        let file = timetable(&mut rng, s, c, &(shape.style)());
         let mut full = Areas {
             notices: vec![0; 1202],
             graph: vec![0; 8 * c + 2 * s],
@@ -77,6 +103,7 @@ impl Setup {
             }
         }
         Setup {
+            shape,
             file,
             s,
             c,
@@ -87,26 +114,29 @@ impl Setup {
     }
 
     /// The timetable that is measured alone.
-    fn alone(c: usize, standing: usize) -> Setup {
-        Setup::new(c, standing, c as u64)
+    fn alone(shape: &'static Shape, c: usize, standing: usize) -> Setup {
+        Setup::new(shape, c, standing, c as u64)
     }
 
     fn posting(&self, rng: &mut Rng) -> Call {
         Call::Post(NUMBER, rng.below(self.c) as u16, rng.range(1, 360) as u16)
     }
 
-    /// A call of the operation that CALLS has at this place. An enquiry is between any two stops,
-    /// 05:00 to 12:00.
+    /// A call of the operation that OPERATIONS has at this place. An enquiry is between any two stops.
     fn draw(&self, op: usize, rng: &mut Rng) -> Call {
         match op {
-            0 => Call::Check,
-            1 => Call::Build,
-            2 => self.posting(rng),
-            3 => Call::Withdraw(NUMBER),
-            4 => {
+            CHECK => Call::Check,
+            BUILD => Call::Build,
+            POST => self.posting(rng),
+            WITHDRAW => Call::Withdraw(NUMBER),
+            ENQUIRE => {
                 let from = rng.below(self.s);
                 let to = (from + rng.range(1, self.s - 1)) % self.s;
-                Call::Enquire(from as u16, to as u16, rng.range(300, 720) as u16)
+                Call::Enquire(
+                    from as u16,
+                    to as u16,
+                    rng.range(300, self.shape.latest) as u16,
+                )
             }
             _ => {
                 let ride = rng.below(self.c) as u16;
@@ -135,20 +165,23 @@ fn median(mut v: Vec<f64>) -> f64 {
 }
 
 /// By operation, of the library and of the fast implementation.
-type Medians = [[f64; 2]; CALLS.len()];
+type Medians = [[f64; 2]; OPERATIONS.len()];
 
 /// A sample of an operation is the mean of a call with each timetable in turn, repeated. A posting
 /// and a withdrawal take turns with the areas, so neither is repeated.
-fn measure(timetables: &[Setup], repeats: [usize; CALLS.len()], samples: usize) -> Medians {
-    let mut sides = [(&PANEL, timetables.to_vec()), (&FAST, timetables.to_vec())];
-    let mut all: [[Vec<f64>; 2]; CALLS.len()] = Default::default();
+fn measure(timetables: &[Setup], repeats: [usize; OPERATIONS.len()], samples: usize) -> Medians {
+    let mut sides = [
+        (&LIBRARY, timetables.to_vec()),
+        (&FAST, timetables.to_vec()),
+    ];
+    let mut all: [[Vec<f64>; 2]; OPERATIONS.len()] = Default::default();
     let mut rng = Rng(99);
     for i in 0..samples {
-        let calls: [Vec<Call>; CALLS.len()] =
+        let calls: [Vec<Call>; OPERATIONS.len()] =
             std::array::from_fn(|op| timetables.iter().map(|t| t.draw(op, &mut rng)).collect());
         for k in [i % 2, 1 - i % 2] {
             let (side, setups) = &mut sides[k];
-            for op in 0..CALLS.len() {
+            for op in 0..OPERATIONS.len() {
                 let start = Instant::now();
                 for _ in 0..repeats[op] {
                     for (x, call) in setups.iter_mut().zip(&calls[op]) {
@@ -171,8 +204,8 @@ fn print_head() {
 }
 
 fn print_rows(c: usize, standing: usize, medians: &Medians) {
-    for (name, [a, b]) in CALLS.iter().zip(medians) {
-        let ratio = a / b;
+    for (operation, [a, b]) in OPERATIONS.iter().zip(medians) {
+        let (name, ratio) = (operation.name, a / b);
         println!("{c:5} {standing:7}  {name:8} {a:9.2} {b:9.2} {ratio:7.2}");
     }
 }
@@ -184,7 +217,7 @@ fn alone(samples: usize) {
     let mut results = Vec::new();
     for c in SIZES {
         for n in STANDING {
-            let m = measure(&[Setup::alone(c, n)], [4, 2, 1, 1, 2, 2], samples);
+            let m = measure(&[Setup::alone(&DAY, c, n)], REPEATS, samples);
             print_rows(c, n, &m);
             results.push((c, n, m));
         }
@@ -195,37 +228,66 @@ fn alone(samples: usize) {
     for n in STANDING {
         let of = |c: usize| results.iter().find(|r| r.0 == c && r.1 == n).map(|r| r.2);
         if let (Some(a), Some(b)) = (of(1000), of(2000)) {
-            for (op, name) in CALLS.iter().enumerate() {
+            for (op, operation) in OPERATIONS.iter().enumerate() {
                 let g = |k: usize| b[op][k] / a[op][k];
-                println!("{n:7}  {name:8} {:9.2} {:9.2}", g(0), g(1));
+                println!("{n:7}  {:8} {:9.2} {:9.2}", operation.name, g(0), g(1));
             }
         }
     }
+}
+
+fn timetables_in_turn(shape: &'static Shape, c: usize, standing: usize, samples: usize) {
+    let seed = |k: usize| (c + 10_000 * k) as u64;
+    let timetables: Vec<Setup> = (0..TIMETABLES)
+        .map(|k| Setup::new(shape, c, standing, seed(k)))
+        .collect();
+    let medians = measure(&timetables, [1; OPERATIONS.len()], samples);
+    print_rows(c, standing, &medians);
 }
 
 fn in_turn(samples: usize) {
     println!("microseconds with {TIMETABLES} timetables in turn, median of {samples} means");
     print_head();
     for c in SIZES {
-        let seed = |k: usize| (c + 10_000 * k) as u64;
-        let timetables: Vec<Setup> = (0..TIMETABLES).map(|k| Setup::new(c, 3, seed(k))).collect();
-        print_rows(c, 3, &measure(&timetables, [1; CALLS.len()], samples));
+        timetables_in_turn(&DAY, c, 3, samples);
     }
+}
+
+fn all_in_one_minute(samples: usize) {
+    println!("microseconds with all departures in one minute, median of {samples}");
+    print_head();
+    for n in STANDING {
+        let setup = Setup::alone(&DENSE, DENSE_SIZE, n);
+        print_rows(DENSE_SIZE, n, &measure(&[setup], REPEATS, samples));
+    }
+    println!();
+    println!("the same with {TIMETABLES} timetables in turn, median of {samples} means");
+    print_head();
+    timetables_in_turn(&DENSE, DENSE_SIZE, 200, samples);
 }
 
 fn tables(samples: usize) {
     alone(samples);
     println!();
     in_turn(samples);
+    println!();
+    all_in_one_minute(samples);
 }
 
-fn one(op: &str, c: usize, standing: usize, side: &Side, repeats: usize) -> bool {
-    let place = CALLS.iter().position(|name| *name == op);
+fn one(
+    shape: &'static Shape,
+    op: &str,
+    c: usize,
+    standing: usize,
+    side: &Side,
+    repeats: usize,
+) -> bool {
+    let place = OPERATIONS.iter().position(|o| o.name == op);
     if place.is_none() && op != "restore" {
         return false;
     }
     let restores = matches!(op, "post" | "withdraw" | "restore");
-    let mut x = Setup::alone(c, standing);
+    let mut x = Setup::alone(shape, c, standing);
     let mut rng = Rng(99);
     if op == "withdraw" {
         let posting = x.posting(&mut rng);
@@ -256,17 +318,20 @@ fn main() -> ExitCode {
             true
         }
         ["operations"] => {
-            println!("{}", CALLS.join(" "));
+            println!("{}", OPERATIONS.map(|o| o.name).join(" "));
             true
         }
         [n] if number(n).is_some_and(|n| n > 0) => {
             tables(number(n).unwrap_or(1));
             true
         }
-        ["one", op, c, n, side, repeats] => {
-            let side = if side == "rust" { &FAST } else { &PANEL };
-            match (number(c), number(n), number(repeats)) {
-                (Some(c @ 1..=2000), Some(n @ 0..=200), Some(r)) => one(op, c, n, side, r),
+        ["one", shape, op, c, n, side, repeats] => {
+            let shape = [&DAY, &DENSE].into_iter().find(|s| s.name == shape);
+            let side = [&LIBRARY, &FAST].into_iter().find(|s| s.name == side);
+            match (shape, side, number(c), number(n), number(repeats)) {
+                (Some(shape), Some(side), Some(c @ 1..=2000), Some(n @ 0..=200), Some(r)) => {
+                    one(shape, op, c, n, side, r)
+                }
                 _ => false,
             }
         }
@@ -274,7 +339,7 @@ fn main() -> ExitCode {
     };
     if !ok {
         eprintln!(
-            "usage: bench [SAMPLES] | bench operations | bench one OP C NOTICES rust|library REPEATS"
+            "usage: bench [SAMPLES] | bench operations | bench one day|dense OP C NOTICES library|rust REPEATS"
         );
         return ExitCode::from(2);
     }

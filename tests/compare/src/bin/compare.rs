@@ -1,36 +1,48 @@
-//! compare SEED ROUNDS [MOST]: the library against the fast implementation, after each call.
-//! MOST limits the connections of a timetable (2000).
+//! compare SEED ROUNDS: all sides on small timetables in so many rounds, then the library and the
+//! fast implementation on timetables of any size in as many. Each call on each side is a test,
+//! and so is each answer that an operation has: it must have been seen.
 
-use compare::ffi::PANEL;
-use compare::harness::{Tester, CALLS, FAST};
+use compare::harness::{Sizes, Tester};
+use compare::sides::{FAST, LIBRARY, SENTENCES};
 use std::process::ExitCode;
+
+/// Connections of a small timetable.
+const SMALL: usize = 12;
 
 fn main() -> ExitCode {
     let args: Vec<String> = std::env::args().skip(1).collect();
     let numbers: Result<Vec<u64>, _> = args.iter().map(|a| a.parse()).collect();
-    let (seed, rounds, most) = match numbers.as_deref() {
-        Ok([seed, rounds]) => (*seed, *rounds, 2000),
-        Ok([seed, rounds, most]) => (*seed, *rounds, *most as usize),
-        _ => {
-            eprintln!("usage: compare SEED ROUNDS [MOST]");
-            return ExitCode::from(2);
-        }
+    let Ok([seed, rounds]) = numbers.as_deref() else {
+        eprintln!("usage: compare SEED ROUNDS");
+        return ExitCode::from(2);
     };
-    let mut t = Tester::new(&PANEL, &FAST);
-    for round in 0..rounds {
-        t.round(seed.wrapping_mul(1_000_000_007).wrapping_add(round), most);
+    let mut passed = 0;
+    let mut failed = 0;
+    let parts = [
+        (
+            "library, Rust and sentences, small timetables",
+            Tester::new(&[&LIBRARY, &FAST, &SENTENCES]),
+            Sizes::Small(SMALL),
+        ),
+        (
+            "library and Rust, any timetables",
+            Tester::new(&[&LIBRARY, &FAST]),
+            Sizes::Any(2000),
+        ),
+    ];
+    for (name, mut t, sizes) in parts {
+        for round in 0..*rounds {
+            t.round(seed.wrapping_mul(1_000_000_007).wrapping_add(round), sizes);
+        }
+        t.count_answers();
+        println!("{name}: answers seen, as number:times with 0 for accepted");
+        println!("{}", t.answers().join("\n"));
+        for note in &t.notes {
+            println!("MISMATCH {note}");
+        }
+        passed += t.passed;
+        failed += t.failed;
     }
-    println!("answers seen, as number:times with 0 for accepted");
-    for (name, seen) in CALLS.iter().zip(&t.seen) {
-        let list: Vec<String> = (0..31)
-            .filter(|&n| seen[n] > 0)
-            .map(|n| format!("{n}:{}", seen[n]))
-            .collect();
-        println!("{name:8} {}", list.join(" "));
-    }
-    for note in &t.notes {
-        println!("MISMATCH {note}");
-    }
-    println!("{} passed, {} failed", t.passed, t.failed);
-    ExitCode::from(u8::from(t.failed > 0))
+    println!("{passed} passed, {failed} failed");
+    ExitCode::from(u8::from(failed > 0))
 }

@@ -1,6 +1,6 @@
-//! figures SVG: reads the lines of counts.sh, prints them as a table and draws them into the file SVG.
+//! figures [SVG]: reads the lines of counts.sh, prints them as a table and draws them into the file SVG.
 
-use compare::harness::CALLS;
+use compare::calls::OPERATIONS;
 use std::collections::BTreeMap;
 use std::fmt::Write;
 use std::io::Read;
@@ -16,7 +16,7 @@ fn read(text: &str) -> Option<Counts> {
         let [c, _, side, op, n] = words[..] else {
             return None;
         };
-        let op = CALLS.iter().position(|o| *o == op)?;
+        let op = OPERATIONS.iter().position(|o| o.name == op)?;
         counts.insert((c.parse().ok()?, op, side == "library"), n.parse().ok()?);
     }
     Some(counts)
@@ -48,7 +48,7 @@ fn table(counts: &Counts) {
         .collect();
     println!("| Operation | | {} |", heads.join(" | "));
     println!("|---|---|{}", "---|".repeat(sizes.len()));
-    for (op, name) in CALLS.iter().enumerate() {
+    for (op, operation) in OPERATIONS.iter().enumerate() {
         let row =
             |side: bool| -> Vec<f64> { sizes.iter().map(|c| counts[&(*c, op, side)]).collect() };
         let (library, rust) = (row(true), row(false));
@@ -63,7 +63,7 @@ fn table(counts: &Counts) {
             .zip(&rust)
             .map(|(a, b)| format!("{:.2}", a / b))
             .collect();
-        println!("| {name} | library | {} |", cells(&library));
+        println!("| {} | library | {} |", operation.name, cells(&library));
         println!("| | Rust | {} |", cells(&rust));
         println!("| | ratio | {} |", ratios.join(" | "));
     }
@@ -114,7 +114,7 @@ fn panel(svg: &mut String, counts: &Counts, op: usize, left: f64, top: f64) {
         svg,
         r##"<text x="{left:.1}" y="{:.1}" font-weight="bold">{}</text>"##,
         top - 8.0,
-        CALLS[op]
+        OPERATIONS[op].name
     );
     for (side, colour) in [(false, "#888"), (true, "#05a")] {
         let points: Vec<String> = sizes
@@ -140,10 +140,11 @@ fn drawing(counts: &Counts) -> String {
     let mut svg = String::from(
         r##"<svg xmlns="http://www.w3.org/2000/svg" width="960" height="500" font-family="sans-serif" font-size="11">
 <rect width="960" height="500" fill="#fff"/>
-<text x="70" y="20">Instructions of one call by connections, library <tspan fill="#05a">blue</tspan>, Rust <tspan fill="#888">grey</tspan></text>
+<text x="70" y="20">Instructions of one call by connections,
+library <tspan fill="#05a">blue</tspan>, Rust <tspan fill="#888">grey</tspan></text>
 "##,
     );
-    for op in 0..CALLS.len() {
+    for op in 0..OPERATIONS.len() {
         panel(
             &mut svg,
             counts,
@@ -158,21 +159,20 @@ fn drawing(counts: &Counts) -> String {
 
 fn main() -> ExitCode {
     let mut text = String::new();
-    let (Some(path), Ok(_)) = (
-        std::env::args().nth(1),
-        std::io::stdin().read_to_string(&mut text),
-    ) else {
-        eprintln!("usage: figures SVG");
+    if std::io::stdin().read_to_string(&mut text).is_err() {
+        eprintln!("cannot read standard input");
         return ExitCode::FAILURE;
-    };
+    }
     let Some(counts) = read(&text) else {
         eprintln!("a line is not 'C NOTICES SIDE OPERATION INSTRUCTIONS'");
         return ExitCode::FAILURE;
     };
     table(&counts);
-    if std::fs::write(&path, drawing(&counts)).is_err() {
-        eprintln!("cannot write {path}");
-        return ExitCode::FAILURE;
+    if let Some(path) = std::env::args().nth(1) {
+        if std::fs::write(&path, drawing(&counts)).is_err() {
+            eprintln!("cannot write {path}");
+            return ExitCode::FAILURE;
+        }
     }
     ExitCode::SUCCESS
 }

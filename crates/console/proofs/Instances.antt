@@ -1,0 +1,58 @@
+-- Example J of document 01 whole: its file, its commands, and what the program prints, byte by byte. Assumes nothing.
+use mathlib.Core.Path.{_≡_, refl}
+use mathlib.Core.List.{List, [], _∷_}
+use Prim.Native.Nat.{ℕ}
+use Rattle.timetable.specs.Answers.{firstBelow}
+use Rattle.timetable.specs.File.{transferTime, trip, from, to, scheduledDeparture, scheduledArrival, staysAboard}
+use Rattle.timetable.specs.Check.{headerVerdict, stopVerdict, wrongStops, wrongTrip, wrongTimes, wrongJoin, connectionVerdict, fileVerdict}
+use Rattle.model.specs.Least.{leastBelow, tab}
+use Rattle.model.specs.Notices.{flat, cut, areaOf, rowsOf, stands, entered, struck, standsRight, unusedRight, rowsFrom, rowsVerdict}
+use Rattle.model.specs.Times.{primaryDelay, expectedDeparture, expectedArrival, networkOf}
+use Rattle.model.specs.Graph.{firstOn, waiting, transferTo, firstDeparture, times, graphOf}
+use Rattle.model.specs.Journeys.{canBeFirst, canFollow}
+use Rattle.model.specs.Predecessors.{choose, rounds, predecessors, follow, arriving, lastTo, nowhere, journeyIn}
+use Rattle.model.specs.Margin.{marginOf}
+use Rattle.model.specs.Drawn.{same}
+use Rattle.model.specs.Parts.{partVerdict}
+use Rattle.model.specs.Operations.{built, changed, enquired, margined}
+use Rattle.model.specs.Example.{exampleJ, inBytes}
+use Rattle.decimals.specs.Decimal.{allDigits, valueAfter, decimal, lastDigits, decimalOf}
+use Rattle.commands.specs.Words.{onFirst, words}
+use Rattle.commands.specs.Commands.{asked, meant, commandOf}
+use Rattle.input.specs.Lines.{linesOf}
+use Rattle.lines.specs.Lines.{journeyText, countsLine, arrivesLine, postedLine, refusalLine, marginLine, textOf}
+use Rattle.dialogue.specs.Turns.{turnOf, talk}
+use Rattle.console.specs.Printed.{printed}
+
+-- "q 0 2 595", "p 7 1 10", "q 0 2 595", "p 3 0 6", "q 0 2 595", "q 0 2 607", "m 0 4"
+unfoldable pub typed : List ℕ
+typed =
+    113 ∷ 32 ∷ 48 ∷ 32 ∷ 50 ∷ 32 ∷ 53 ∷ 57 ∷ 53 ∷ 10 ∷
+    112 ∷ 32 ∷ 55 ∷ 32 ∷ 49 ∷ 32 ∷ 49 ∷ 48 ∷ 10 ∷
+    113 ∷ 32 ∷ 48 ∷ 32 ∷ 50 ∷ 32 ∷ 53 ∷ 57 ∷ 53 ∷ 10 ∷
+    112 ∷ 32 ∷ 51 ∷ 32 ∷ 48 ∷ 32 ∷ 54 ∷ 10 ∷
+    113 ∷ 32 ∷ 48 ∷ 32 ∷ 50 ∷ 32 ∷ 53 ∷ 57 ∷ 53 ∷ 10 ∷
+    113 ∷ 32 ∷ 48 ∷ 32 ∷ 50 ∷ 32 ∷ 54 ∷ 48 ∷ 55 ∷ 10 ∷
+    109 ∷ 32 ∷ 48 ∷ 32 ∷ 52 ∷ 10 ∷
+    []
+
+-- "stops 3 rides 5", "arrives 640 by 0 1", "posted 7", "arrives 642 by 0 4", "posted 3", "arrives 650 by 0 1", "no 30 at 0", "margin -1"
+pub example-printed : printed exampleJ typed ≡
+    115 ∷ 116 ∷ 111 ∷ 112 ∷ 115 ∷ 32 ∷ 51 ∷ 32 ∷ 114 ∷ 105 ∷ 100 ∷ 101 ∷ 115 ∷ 32 ∷ 53 ∷ 10 ∷
+    97 ∷ 114 ∷ 114 ∷ 105 ∷ 118 ∷ 101 ∷ 115 ∷ 32 ∷ 54 ∷ 52 ∷ 48 ∷ 32 ∷ 98 ∷ 121 ∷ 32 ∷ 48 ∷ 32 ∷ 49 ∷ 10 ∷
+    112 ∷ 111 ∷ 115 ∷ 116 ∷ 101 ∷ 100 ∷ 32 ∷ 55 ∷ 10 ∷
+    97 ∷ 114 ∷ 114 ∷ 105 ∷ 118 ∷ 101 ∷ 115 ∷ 32 ∷ 54 ∷ 52 ∷ 50 ∷ 32 ∷ 98 ∷ 121 ∷ 32 ∷ 48 ∷ 32 ∷ 52 ∷ 10 ∷
+    112 ∷ 111 ∷ 115 ∷ 116 ∷ 101 ∷ 100 ∷ 32 ∷ 51 ∷ 10 ∷
+    97 ∷ 114 ∷ 114 ∷ 105 ∷ 118 ∷ 101 ∷ 115 ∷ 32 ∷ 54 ∷ 53 ∷ 48 ∷ 32 ∷ 98 ∷ 121 ∷ 32 ∷ 48 ∷ 32 ∷ 49 ∷ 10 ∷
+    110 ∷ 111 ∷ 32 ∷ 51 ∷ 48 ∷ 32 ∷ 97 ∷ 116 ∷ 32 ∷ 48 ∷ 10 ∷
+    109 ∷ 97 ∷ 114 ∷ 103 ∷ 105 ∷ 110 ∷ 32 ∷ 45 ∷ 49 ∷ 10 ∷
+    []
+unfolding typed printed talk turnOf linesOf onFirst words commandOf meant asked decimal allDigits valueAfter
+    textOf countsLine arrivesLine postedLine refusalLine marginLine journeyText decimalOf lastDigits
+    exampleJ inBytes built changed enquired margined partVerdict same
+    fileVerdict headerVerdict stopVerdict wrongStops wrongTrip wrongTimes wrongJoin connectionVerdict firstBelow
+    transferTime trip from to scheduledDeparture scheduledArrival staysAboard
+    leastBelow tab flat cut areaOf rowsOf stands entered struck standsRight unusedRight rowsFrom rowsVerdict
+    primaryDelay expectedDeparture expectedArrival networkOf firstOn waiting transferTo firstDeparture times graphOf
+    canBeFirst canFollow choose rounds predecessors follow arriving lastTo nowhere journeyIn marginOf
+example-printed = refl

@@ -1,0 +1,4 @@
+pub mod Turns
+pub mod Room
+pub mod Inner
+pub mod Worked

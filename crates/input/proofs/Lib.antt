@@ -1,0 +1,4 @@
+pub mod Lines
+pub mod Whole
+pub mod Holding
+pub mod Instances

@@ -1,0 +1,132 @@
+//! The memory that calls work on: the file and the areas, each at any address with bytes around it
+//! that nobody may change.
+
+use crate::calls::{Call, Side, AREAS};
+use crate::gen::Rng;
+
+/// Bytes of an area, and bytes before and after it.
+#[derive(Clone, PartialEq)]
+pub struct Room {
+    bytes: Vec<u8>,
+    start: usize,
+    len: usize,
+}
+
+impl Room {
+    pub fn new(rng: &mut Rng, content: &[u8]) -> Room {
+        let start = rng.range(16, 24);
+        let mut bytes: Vec<u8> = (0..start).map(|_| rng.word() as u8).collect();
+        bytes.extend(content);
+        bytes.extend((0..16).map(|_| rng.word() as u8));
+        Room {
+            bytes,
+            start,
+            len: content.len(),
+        }
+    }
+
+    /// An area of this length with any content.
+    pub fn any(rng: &mut Rng, len: usize) -> Room {
+        let content: Vec<u8> = (0..len).map(|_| rng.word() as u8).collect();
+        Room::new(rng, &content)
+    }
+
+    /// Its length in bytes.
+    pub fn len(&self) -> usize {
+        self.len
+    }
+
+    pub fn is_empty(&self) -> bool {
+        self.len == 0
+    }
+
+    pub fn area(&self) -> &[u8] {
+        &self.bytes[self.start..self.start + self.len]
+    }
+
+    pub fn area_mut(&mut self) -> &mut [u8] {
+        &mut self.bytes[self.start..self.start + self.len]
+    }
+
+    /// The number at place i.
+    pub fn num(&self, i: usize) -> u16 {
+        get(self.area(), 2 * i)
+    }
+
+    pub fn set(&mut self, i: usize, v: u16) {
+        set(self.area_mut(), 2 * i, v);
+    }
+
+    /// The first byte that differs, counted from the area's start.
+    fn difference(&self, other: &Room) -> Option<isize> {
+        let at = self
+            .bytes
+            .iter()
+            .zip(&other.bytes)
+            .position(|(a, b)| a != b);
+        at.map(|at| at as isize - self.start as isize)
+    }
+}
+
+/// The number whose low byte is at this place.
+pub fn get(bytes: &[u8], at: usize) -> u16 {
+    u16::from_le_bytes([bytes[at], bytes[at + 1]])
+}
+
+pub fn set(bytes: &mut [u8], at: usize, v: u16) {
+    bytes[at..at + 2].copy_from_slice(&v.to_le_bytes());
+}
+
+/// The file and the areas, and the counts of the timetable that they were made for.
+#[derive(Clone, PartialEq)]
+pub struct State {
+    pub file: Room,
+    pub areas: [Room; AREAS.len()],
+    pub s: usize,
+    pub c: usize,
+}
+
+impl State {
+    /// Areas of the needed length or longer, with any content.
+    pub fn new(rng: &mut Rng, file: &[u8], s: usize, c: usize) -> State {
+        State {
+            file: Room::new(rng, file),
+            areas: AREAS.map(|area| {
+                let more = rng.pick(&[0, 0, 0, 1, 2, 3, 7, 40]);
+                Room::any(rng, 2 * (area.needs)(s, c) + more)
+            }),
+            s,
+            c,
+        }
+    }
+
+    pub fn apply(&mut self, side: &Side, call: Call) -> i64 {
+        let areas = self.areas.each_mut().map(Room::area_mut);
+        (side.call)(self.file.area(), areas, call)
+    }
+
+    /// Name and first differing byte of the first room that differs.
+    pub fn difference(&self, other: &State) -> Option<(&'static str, isize)> {
+        if let Some(at) = self.file.difference(&other.file) {
+            return Some(("file", at));
+        }
+        let mut rooms = AREAS.iter().zip(self.areas.iter().zip(&other.areas));
+        rooms.find_map(|(area, (a, b))| a.difference(b).map(|at| (area.name, at)))
+    }
+}
+
+/// An area with another length: near the needed one mostly.
+pub fn change_length(x: &mut State, rng: &mut Rng) {
+    let which = rng.below(AREAS.len());
+    let needed = 2 * (AREAS[which].needs)(x.s, x.c);
+    let len = match rng.below(6) {
+        0 => rng.below(needed + 1),
+        1 => 0,
+        2 => rng.below(4),
+        3 => needed + rng.below(5),
+        _ => (needed + 2).saturating_sub(rng.below(6)),
+    };
+    let mut content = x.areas[which].area().to_vec();
+    content.resize(len, 0xa5);
+    x.areas[which] = Room::new(rng, &content);
+}

@@ -1,0 +1,484 @@
+//! Document 01 rule by rule: slow, obvious, for small timetables. Every valid journey is listed,
+//! and the first in document 01's order is taken. The refusals of all operations are one list in
+//! document 01's order, each made where the call has the input that it is about.
+
+#![forbid(unsafe_code)]
+
+use crate::calls::{Call, Lent, Side, GRAPH, JOURNEY, NOTICES, WORK};
+
+const NONE: usize = 65535;
+
+/// More connections than these make too many journeys to list.
+pub const MOST: usize = 16;
+
+pub static SENTENCES: Side = Side {
+    name: "sentences",
+    call: |file, areas, call| make(file, areas, call, by_listing),
+};
+
+/// The same for timetables of any size: of the journeys that end with a connection, only the first
+/// in the order is kept.
+pub static BY_LAST: Side = Side {
+    name: "by last connection",
+    call: |file, areas, call| make(file, areas, call, by_last),
+};
+
+#[derive(Clone, Debug)]
+pub struct Ride {
+    pub trip: usize,
+    pub from: usize,
+    pub to: usize,
+    pub dep: usize,
+    pub arr: usize,
+}
+
+#[derive(Clone, Debug)]
+pub struct Timetable {
+    pub change: Vec<usize>,
+    pub rides: Vec<Ride>,
+}
+
+#[derive(Clone, Copy, Debug, PartialEq)]
+pub struct Notice {
+    pub number: usize,
+    pub ride: usize,
+    pub delay: usize,
+}
+
+const UNUSED: Notice = Notice {
+    number: 0,
+    ride: 0,
+    delay: 0,
+};
+
+/// A refusal: number and place.
+type Refusal = (usize, usize);
+
+// ---------------------------------------------------------------- numbers
+
+fn get(bytes: &[u8]) -> Vec<usize> {
+    bytes
+        .chunks_exact(2)
+        .map(|b| b[0] as usize + 256 * b[1] as usize)
+        .collect()
+}
+
+fn put(bytes: &mut [u8], numbers: &[usize]) {
+    for (i, n) in numbers.iter().enumerate() {
+        bytes[2 * i] = (n % 256) as u8;
+        bytes[2 * i + 1] = (n / 256) as u8;
+    }
+}
+
+// ---------------------------------------------------------------- the file
+
+/// Refusals 1 to 7, then 8 to 11 connection by connection.
+pub fn read(file: &[u8]) -> Result<Timetable, Refusal> {
+    if file.len() < 9 {
+        return Err((1, 0));
+    }
+    if &file[..3] != b"TTG" {
+        return Err((2, 0));
+    }
+    let head = get(&file[3..9]);
+    let (version, s, c) = (head[0], head[1], head[2]);
+    if version != 1 {
+        return Err((3, 0));
+    }
+    if !(1..=500).contains(&s) {
+        return Err((4, 0));
+    }
+    if c > 2000 {
+        return Err((5, 0));
+    }
+    if file.len() != 9 + 2 * s + 10 * c {
+        return Err((6, 0));
+    }
+    let change = get(&file[9..9 + 2 * s]);
+    for (stop, minutes) in change.iter().enumerate() {
+        if *minutes > 60 {
+            return Err((7, stop));
+        }
+    }
+    let mut rides: Vec<Ride> = Vec::new();
+    for (i, b) in file[9 + 2 * s..].chunks_exact(10).enumerate() {
+        let n = get(b);
+        let r = Ride {
+            trip: n[0],
+            from: n[1],
+            to: n[2],
+            dep: n[3],
+            arr: n[4],
+        };
+        if r.from >= s || r.to >= s || r.from == r.to {
+            return Err((8, i));
+        }
+        let before = rides.last();
+        let trip_right = match before {
+            None => r.trip == 0,
+            Some(p) => r.trip == p.trip || r.trip == p.trip + 1,
+        };
+        if !trip_right {
+            return Err((9, i));
+        }
+        if r.dep >= r.arr || r.arr > 4319 {
+            return Err((10, i));
+        }
+        let joins = match before {
+            Some(p) if p.trip == r.trip => r.from == p.to && r.dep >= p.arr,
+            _ => true,
+        };
+        if !joins {
+            return Err((11, i));
+        }
+        rides.push(r);
+    }
+    Ok(Timetable { change, rides })
+}
+
+// ---------------------------------------------------------------- notices, times, graph
+
+/// The notices standing in an area of 601 numbers, or the first wrong row.
+fn standing(area: &[usize], c: usize) -> Result<Vec<Notice>, Refusal> {
+    let count = area[0];
+    if count > 200 {
+        return Err((23, 0));
+    }
+    let mut out: Vec<Notice> = Vec::new();
+    for row in 1..=200 {
+        let n = Notice {
+            number: area[3 * row - 2],
+            ride: area[3 * row - 1],
+            delay: area[3 * row],
+        };
+        let right = if row <= count {
+            let above = out.last().is_none_or(|p| n.number > p.number);
+            n.number != 0 && above && n.ride < c && (1..=1440).contains(&n.delay)
+        } else {
+            n == UNUSED
+        };
+        if !right {
+            return Err((23, row));
+        }
+        if row <= count {
+            out.push(n);
+        }
+    }
+    Ok(out)
+}
+
+/// The 601 numbers of the notice area.
+fn notice_area(notices: &[Notice]) -> Vec<usize> {
+    let mut sorted = notices.to_vec();
+    sorted.sort_by_key(|n| n.number);
+    sorted.resize(200, UNUSED);
+    let rows = sorted.iter().flat_map(|n| [n.number, n.ride, n.delay]);
+    [notices.len()].into_iter().chain(rows).collect()
+}
+
+/// The times in force, departure and arrival by ride.
+pub fn times(t: &Timetable, notices: &[Notice]) -> Vec<(usize, usize)> {
+    let mut out: Vec<(usize, usize)> = Vec::new();
+    for (i, r) in t.rides.iter().enumerate() {
+        let delays = notices.iter().filter(|n| n.ride == i).map(|n| n.delay);
+        let own = delays.max().unwrap_or(0);
+        let mut dep = r.dep + own;
+        if i > 0 && t.rides[i - 1].trip == r.trip {
+            dep = dep.max(out[i - 1].1);
+        }
+        out.push((dep, dep + (r.arr - r.dep)));
+    }
+    out
+}
+
+/// The 4C + S numbers of the graph area.
+pub fn graph(t: &Timetable, notices: &[Notice]) -> Vec<usize> {
+    let times = times(t, notices);
+    let c = t.rides.len();
+    // The first ride in departure order from a stop, among those that fit.
+    let first = |stop: usize, fits: &dyn Fn(usize) -> bool| {
+        (0..c)
+            .filter(|&d| t.rides[d].from == stop && fits(d))
+            .min_by_key(|&d| (times[d].0, d))
+            .unwrap_or(NONE)
+    };
+    let mut out = Vec::new();
+    for &(dep, arr) in &times {
+        out.push(dep);
+        out.push(arr);
+    }
+    for (i, r) in t.rides.iter().enumerate() {
+        out.push(first(r.from, &|d| (times[d].0, d) > (times[i].0, i)));
+    }
+    for (i, r) in t.rides.iter().enumerate() {
+        out.push(first(r.to, &|d| times[d].0 >= times[i].1 + t.change[r.to]));
+    }
+    for stop in 0..t.change.len() {
+        out.push(first(stop, &|_| true));
+    }
+    out
+}
+
+// ---------------------------------------------------------------- journeys
+
+/// A timetable with its times in force, and where and when a journey starts.
+pub struct Enquiry<'a> {
+    pub timetable: &'a Timetable,
+    pub times: &'a [(usize, usize)],
+    pub from: usize,
+    pub time: usize,
+}
+
+impl Enquiry<'_> {
+    fn rides(&self) -> std::ops::Range<usize> {
+        0..self.timetable.rides.len()
+    }
+
+    fn can_be_first(&self, d: usize) -> bool {
+        self.timetable.rides[d].from == self.from && self.times[d].0 >= self.time
+    }
+
+    /// Whether ride p can stand directly before ride d.
+    fn can_follow(&self, p: usize, d: usize) -> bool {
+        let (a, b) = (&self.timetable.rides[p], &self.timetable.rides[d]);
+        let aboard = d == p + 1 && a.trip == b.trip;
+        let ready = self.times[p].1 + self.timetable.change[a.to];
+        a.to == b.from && (aboard || self.times[d].0 >= ready)
+    }
+
+    /// Every non-empty list of rides that is valid but for its end, read from its end.
+    pub fn journeys(&self) -> Vec<Vec<usize>> {
+        assert!(self.rides().len() <= MOST, "too many journeys to list");
+        let firsts = self.rides().filter(|&d| self.can_be_first(d));
+        let mut all: Vec<Vec<usize>> = firsts.map(|d| vec![d]).collect();
+        let mut i = 0;
+        while i < all.len() {
+            for d in self.rides() {
+                if self.can_follow(all[i][0], d) {
+                    all.push([&[d], &all[i][..]].concat());
+                }
+            }
+            i += 1;
+        }
+        all
+    }
+
+    /// For each ride the first in the order of the lists that end with it, each read from its end.
+    fn firsts_by_last(&self) -> Vec<Vec<usize>> {
+        let mut by_departure: Vec<usize> = self.rides().collect();
+        by_departure.sort_by_key(|&d| self.times[d].0);
+        let mut kept: Vec<Vec<usize>> = vec![Vec::new(); self.rides().len()];
+        // A ride leaves before those that can follow it.
+        for d in by_departure {
+            let before = self
+                .rides()
+                .filter(|&p| !kept[p].is_empty() && self.can_follow(p, d));
+            let alone = self.can_be_first(d).then_some(&[][..]);
+            let first = before.map(|p| &kept[p][..]).chain(alone).min();
+            if let Some(list) = first {
+                kept[d] = [&[d], list].concat();
+            }
+        }
+        kept.retain(|list| !list.is_empty());
+        kept
+    }
+
+    /// The work area, by the rides that end a valid journey.
+    fn work(&self, ends: &[bool]) -> Vec<usize> {
+        let entry = |d: usize| {
+            if !ends[d] {
+                NONE
+            } else if self.can_be_first(d) {
+                d
+            } else {
+                let mut before = self.rides().filter(|&p| ends[p] && self.can_follow(p, d));
+                before.next().unwrap_or(NONE)
+            }
+        };
+        self.rides().map(entry).collect()
+    }
+
+    /// The rides that end one of the lists.
+    fn ends(&self, lists: &[Vec<usize>]) -> Vec<bool> {
+        let mut ends = vec![false; self.rides().len()];
+        for list in lists {
+            ends[list[0]] = true;
+        }
+        ends
+    }
+
+    /// Of the lists that end at `to` the one that arrives first, then the first in the order.
+    pub fn best(&self, lists: &[Vec<usize>], to: usize) -> Option<(usize, Vec<usize>)> {
+        let there = lists
+            .iter()
+            .filter(|list| self.timetable.rides[list[0]].to == to);
+        let best = there.map(|list| (self.times[list[0]].1, list)).min();
+        best.map(|(arrival, list)| (arrival, list.iter().rev().copied().collect()))
+    }
+}
+
+/// Lists of rides, read from their end, among which are all that an answer needs.
+type Lists = fn(&Enquiry) -> Vec<Vec<usize>>;
+
+fn by_listing(q: &Enquiry) -> Vec<Vec<usize>> {
+    q.journeys()
+}
+
+fn by_last(q: &Enquiry) -> Vec<Vec<usize>> {
+    q.firsts_by_last()
+}
+
+// ---------------------------------------------------------------- the operations
+
+/// The notice number that a call has.
+fn number_in(call: Call) -> Option<usize> {
+    match call {
+        Call::Post(number, ..) | Call::Withdraw(number) => Some(number.into()),
+        _ => None,
+    }
+}
+
+/// The rides, of a call that names some.
+fn rides_in(call: Call) -> Vec<usize> {
+    match call {
+        Call::Post(_, ride, _) => vec![ride.into()],
+        Call::Margin(ride, next) => vec![ride.into(), next.into()],
+        _ => vec![],
+    }
+}
+
+/// Which areas a call has.
+fn areas_in(call: Call) -> &'static [usize] {
+    match call {
+        Call::Check => &[],
+        Call::Build | Call::Post(..) | Call::Withdraw(..) | Call::Margin(..) => &[NOTICES, GRAPH],
+        Call::Enquire(..) => &[NOTICES, GRAPH, WORK, JOURNEY],
+    }
+}
+
+/// Every refusal but 30, in document 01's order; else the timetable and the notices standing, none
+/// for a call that does not look at them.
+fn refused_or(
+    file: &[u8],
+    areas: &[Vec<usize>],
+    call: Call,
+) -> Result<(Timetable, Vec<Notice>), Refusal> {
+    let t = read(file)?;
+    let (s, c) = (t.change.len(), t.rides.len());
+    let rooms = [
+        (21, NOTICES, 601),
+        (22, GRAPH, 4 * c + s),
+        (28, WORK, c),
+        (29, JOURNEY, c),
+    ];
+    for (refusal, area, needed) in rooms {
+        if areas_in(call).contains(&area) && areas[area].len() < needed {
+            return Err((refusal, 0));
+        }
+    }
+    if let Call::Check | Call::Build = call {
+        return Ok((t, vec![]));
+    }
+    let list = standing(&areas[NOTICES], c)?;
+    if areas[GRAPH][..4 * c + s] != graph(&t, &list) {
+        return Err((24, 0));
+    }
+    if number_in(call) == Some(0) {
+        return Err((12, 0));
+    }
+    if rides_in(call).iter().any(|&ride| ride >= c) {
+        return Err((13, 0));
+    }
+    if let Call::Post(_, _, delay) = call {
+        if !(1..=1440).contains(&delay) {
+            return Err((14, 0));
+        }
+    }
+    if let Call::Enquire(from, to, time) = call {
+        if usize::from(from) >= s || usize::from(to) >= s {
+            return Err((15, 0));
+        }
+        if time > 5759 {
+            return Err((16, 0));
+        }
+    }
+    if let Call::Margin(ride, next) = call {
+        if t.rides[usize::from(ride)].to != t.rides[usize::from(next)].from {
+            return Err((17, 0));
+        }
+    }
+    let stands = |number: usize| list.iter().any(|n| n.number == number);
+    if let Call::Post(number, ..) = call {
+        if stands(number.into()) {
+            return Err((25, 0));
+        }
+        if list.len() == 200 {
+            return Err((26, 0));
+        }
+    }
+    if let Call::Withdraw(number) = call {
+        if !stands(number.into()) {
+            return Err((27, 0));
+        }
+    }
+    Ok((t, list))
+}
+
+fn counts(t: &Timetable) -> i64 {
+    t.change.len() as i64 + 65536 * t.rides.len() as i64
+}
+
+fn answer(file: &[u8], areas: &mut Lent, call: Call, lists: Lists) -> Result<i64, Refusal> {
+    let numbers: Vec<Vec<usize>> = areas.iter().map(|area| get(area)).collect();
+    let (t, mut list) = refused_or(file, &numbers, call)?;
+    match call {
+        Call::Check => Ok(counts(&t)),
+        Call::Build => {
+            put(areas[NOTICES], &notice_area(&[]));
+            put(areas[GRAPH], &graph(&t, &[]));
+            Ok(counts(&t))
+        }
+        Call::Post(number, ..) | Call::Withdraw(number) => {
+            if let Call::Post(_, ride, delay) = call {
+                list.push(Notice {
+                    number: number.into(),
+                    ride: ride.into(),
+                    delay: delay.into(),
+                });
+            } else {
+                list.retain(|n| n.number != usize::from(number));
+            }
+            put(areas[NOTICES], &notice_area(&list));
+            put(areas[GRAPH], &graph(&t, &list));
+            Ok(number.into())
+        }
+        Call::Enquire(from, to, time) => {
+            let q = Enquiry {
+                timetable: &t,
+                times: &times(&t, &list),
+                from: from.into(),
+                time: time.into(),
+            };
+            let lists = lists(&q);
+            put(areas[WORK], &q.work(&q.ends(&lists)));
+            if from == to {
+                return Ok(time.into());
+            }
+            let (arrival, rides) = q.best(&lists, to.into()).ok_or((30, 0))?;
+            put(areas[JOURNEY], &rides);
+            Ok(arrival as i64 + 65536 * rides.len() as i64)
+        }
+        Call::Margin(ride, next) => {
+            let times = times(&t, &list);
+            let (c, d) = (usize::from(ride), usize::from(next));
+            Ok(times[d].0 as i64 - times[c].1 as i64 - t.change[t.rides[c].to] as i64)
+        }
+    }
+}
+
+fn make(file: &[u8], mut areas: Lent, call: Call, lists: Lists) -> i64 {
+    match answer(file, &mut areas, call, lists) {
+        Ok(value) => 65536 * value,
+        Err((number, place)) => number as i64 + 65536 * place as i64,
+    }
+}
