@@ -13,13 +13,13 @@ test: needs-rt needs-gcc needs-cargo needs-python3
 demo: needs-rt
 	@echo 'Proves the desk program and every crate below it, then runs it on example J (example/commands).'
 	@echo 'From nothing it takes some five minutes with two processors; what is proved already is not proved again.'
-	@rt check desk 2>&1 | grep --line-buffered -Ev '^(library |logic[ =]|fn .*: proved$$|axioms |linked )'
+	@.ci/prover check desk 2>&1 | grep --line-buffered -Ev '^(library |logic[ =]|fn .*: proved$$|axioms |linked )'
 	@echo 'desk < commands:'
 	@cd example && ../target/bin/desk < commands
 
 # The static library for C: target/staticlib/libpanel.a, with include/ttg.h.
 lib: needs-rt
-	rt staticlib panel
+	.ci/prover staticlib panel
 
 # Microseconds beside the independent Rust implementation, with one timetable and with sixteen in turn, and with all departures in
 # one minute; instructions too where valgrind is installed, drawn into target/instructions.svg.

@@ -29,7 +29,7 @@ use Rattle.model.proofs.Enquiries.{enquiry-means}
 use Rattle.model.proofs.Register.{arrangedOn, arranged}
 use Rattle.model.proofs.Runs.{Agree, Keeps, none-formed, building-is, building-number, step, run-agrees, held, refusals-kept, network-kept}
 use Rattle.codes.specs.Encoded.{numberSize, coded, codedCounts, codedArrival}
-use Rattle.updates.specs.Updated.{codedBy}
+use Rattle.coded_updates.specs.Updated.{codedBy}
 use Rattle.byte_runs.specs.Runs.{ByteAreas, asNumbers, Bytewise, Answers, Calls, done, more, ByteRun, codesOf, ByteEnquiry, EnquiryClaim, ByteClaim}
 use Rattle.byte_runs.proofs.Written.{all-written, Stays, stays, reads, stays-after, past-written}
 use Rattle.byte_runs.proofs.Enquiry.{enquiry-keeps}

@@ -18,7 +18,7 @@ use Rattle.model.specs.Register.{Call}
 use Rattle.model.specs.Runs.{called, runOf, overAreas, registerOf, Held}
 use Rattle.codes.specs.Encoded.{numberSize, coded, codedCounts, codedArrival}
 use Rattle.fronts.specs.Fronts.{lentBytes}
-use Rattle.updates.specs.Updated.{CodedOutcome, codedBy, OutcomeBytes}
+use Rattle.coded_updates.specs.Updated.{CodedOutcome, codedBy, OutcomeBytes}
 use Rattle.enquiries.specs.Enquired.{EnquiryBytes}
 
 -- both areas of bytes

@@ -10,8 +10,8 @@ use Rattle.timetable.specs.File.{to}
 use Rattle.model.specs.Least.{none}
 use Rattle.model.specs.Graph.{departureIn, transferIn}
 use Rattle.model.specs.Shown.{shown}
-use Rattle.entries.specs.Timed.{Timed, boardIn, readyIn}
-use Rattle.entries.proofs.Opened.{to-below}
+use Rattle.boards.specs.Timed.{Timed, boardIn, readyIn}
+use Rattle.boards.proofs.Opened.{to-below}
 use Rattle.certificate.specs.Links.{changeOf, Lasts, ChangeLink}
 use Rattle.certificate.specs.Links.ChangeLink.{nobody, leads}
 use Rattle.certificate.specs.Telling.{Tells}

@@ -18,8 +18,8 @@ use Rattle.model.specs.Graph.{board, departureIn, waitingIn, firstIn}
 use Rattle.model.proofs.ByCases.{by-eq, same-test, one-more}
 use Rattle.model.specs.Shown.{shown}
 use Rattle.certificate.specs.Links.{firstOf, nextOf, FirstLink, NextLink, nobody, leads, Mark, missed, first, next, Marks, Last, followed, unfollowed, Lasts}
-use Rattle.entries.specs.Timed.{Timed, boardIn}
-use Rattle.entries.proofs.Opened.{departs-early}
+use Rattle.boards.specs.Timed.{Timed, boardIn}
+use Rattle.boards.proofs.Opened.{departs-early}
 use Rattle.certificate.specs.Telling.{FirstsLinked, NextsLinked, FirstTold, NextTold}
 use Rattle.certificate.proofs.Telling.{told, denied}
 

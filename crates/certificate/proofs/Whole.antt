@@ -12,8 +12,8 @@ use Rattle.model.specs.Shown.{shown}
 use Rattle.certificate.specs.Links.{FirstLink, NextLink, ChangeLink, Marks, Lasts, AllMarked, LinksRight, ListsRight}
 use Rattle.certificate.specs.Links.Mark.{missed}
 use Rattle.certificate.specs.Links.Last.{followed}
-use Rattle.entries.specs.Timed.{Timed}
-use Rattle.entries.proofs.Fronts.{own-length, own-holds}
+use Rattle.boards.specs.Timed.{Timed}
+use Rattle.boards.proofs.Fronts.{own-length, own-holds}
 use Rattle.certificate.specs.Telling.{NextsLinked, NoneMissed}
 use Rattle.certificate.proofs.Links.{links-right, right-first, right-next, right-marked}
 use Rattle.certificate.proofs.Changes.{change-right, right-change}

@@ -8,7 +8,7 @@ ghost use lib.ListN.{length};
 ghost use Rattle.model.specs.Least.{none, key};
 ghost use Rattle.model.specs.Graph.{departureIn};
 ghost use Rattle.model.specs.Shown.{shown};
-ghost use Rattle.entries.specs.Timed.{Timed};
+ghost use Rattle.boards.specs.Timed.{Timed};
 ghost use Rattle.certificate.specs.Links.{ListsRight};
 ghost use Rattle.certificate.specs.Telling.{Tells, FirstsLinked, FirstTold, FirstsTold, NextsLinked, NextTold, NextsTold};
 ghost use Rattle.certificate.specs.Telling.{NoneMissed, ChangeTold, ChangesTold};
@@ -30,7 +30,7 @@ fn link_first(
     if n <= d {
         return e == model::NONE;
     }
-    if entries::board(file, stops, d) as usize != b {
+    if boards::board(file, stops, d) as usize != b {
         return false;
     }
     marks[d] = 0;
@@ -82,7 +82,7 @@ fn link_next(
     requires { ⌜ Timed (now file) stops n (now graph) × (c < n) × NextsLinked (now file) (now graph) stops c (now marks) (now lasts) ⌝ }
     ensures { λ r. ⌜ NextTold (now (file .entry)) (now (graph .entry)) stops c r (now (marks .exit)) (now (lasts .exit)) ⌝ }
 {
-    let board = entries::board(file, stops, c);
+    let board = boards::board(file, stops, c);
     let departure = entries::departure(graph, c);
     let e = entries::waiting(graph, n, c);
     let d = e as usize;
@@ -93,7 +93,7 @@ fn link_next(
         lasts[board as usize] = departure + 1;
         return true;
     }
-    if entries::board(file, stops, d) != board {
+    if boards::board(file, stops, d) != board {
         return false;
     }
     if !is_after(graph, c, d) {
@@ -154,7 +154,7 @@ fn change_right(
     ensures { λ r. ⌜ ChangeTold (now (file .entry)) (now (graph .entry)) (now (marks .entry)) (now (lasts .entry)) c r ⌝ }
 {
     let stop = timetable::to(file, stops, c);
-    let ready = entries::ready(file, stops, graph, c);
+    let ready = boards::ready(file, stops, graph, c);
     let e = entries::transfer(graph, n, c);
     let d = e as usize;
     if n <= d {
@@ -163,7 +163,7 @@ fn change_right(
         }
         return lasts[stop as usize] <= ready;
     }
-    if entries::board(file, stops, d) != stop {
+    if boards::board(file, stops, d) != stop {
         return false;
     }
     if entries::departure(graph, d) < ready {

@@ -21,7 +21,8 @@ use Rattle.commands.specs.Words.{onFirst, words}
 use Rattle.commands.specs.Commands.{asked, meant, commandOf}
 use Rattle.input.specs.Lines.{linesOf}
 use Rattle.lines.specs.Lines.{journeyText, countsLine, arrivesLine, postedLine, refusalLine, marginLine, textOf}
-use Rattle.dialogue.specs.Turns.{turnOf, talk}
+use Rattle.turns.specs.Turns.{turnOf}
+use Rattle.dialogue.specs.Talks.{talk}
 use Rattle.console.specs.Printed.{printed}
 
 -- "q 0 2 595", "p 7 1 10", "q 0 2 595", "p 3 0 6", "q 0 2 595", "q 0 2 607", "m 0 4"

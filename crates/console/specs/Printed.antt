@@ -12,7 +12,8 @@ use Rattle.model.specs.Operations.{built}
 use Rattle.input.specs.Lines.{commandsOf}
 use Rattle.lines.specs.Lines.{textOf}
 use Rattle.replies.specs.Replies.{lineOf, sayCounts}
-use Rattle.dialogue.specs.Turns.{state, Talk, talk}
+use Rattle.turns.specs.Turns.{state}
+use Rattle.dialogue.specs.Talks.{Talk, talk}
 
 -- what is said after a building's line: nothing if the timetable is refused
 abbrev pub afterwards : Answer Counts → Talk → List ℕ

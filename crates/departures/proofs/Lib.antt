@@ -1,4 +1,1 @@
-pub mod Stores
-pub mod Counts
-pub mod Sorting
 pub mod Filling

@@ -11,7 +11,8 @@ use Rattle.commands.specs.declared.Command.{Command}
 use Rattle.input.specs.Lines.{linesOf, plain, commandsOf, heldRoom}
 use Rattle.input.proofs.Holding.{held-same, last-line}
 use Rattle.lines.specs.Lines.{textOf}
-use Rattle.dialogue.specs.Turns.{State, turnOf, Talk, talked, talk}
+use Rattle.turns.specs.Turns.{State, turnOf}
+use Rattle.dialogue.specs.Talks.{Talk, talked, talk}
 use Rattle.dialogue.specs.Worked.{Progressed}
 use Rattle.dialogue.specs.declared.Progress.{Progress}
 use Rattle.dialogue.proofs.Talks.{talk-append}

@@ -12,9 +12,11 @@ use Rattle.input.specs.Lines.{linesOf, wholeLine, commandsOf}
 use Rattle.input.proofs.Whole.{whole-none, stop-within, lines-turn, whole-turn}
 use Rattle.lines.specs.Lines.{textOf}
 use Rattle.lines.specs.Room.{LineIs}
-use Rattle.dialogue.specs.Turns.{State, Turn, turnOf, talked, talk}
+use Rattle.turns.specs.Turns.{State, Turn, turnOf}
+use Rattle.turns.specs.Worked.{Worked}
+use Rattle.dialogue.specs.Talks.{talked, talk}
 use Rattle.dialogue.specs.Inner.{Added}
-use Rattle.dialogue.specs.Worked.{Worked, Talked}
+use Rattle.dialogue.specs.Worked.{Talked}
 
 -- an area keeps its length
 abbrev pub SameLength : List ℕ → List ℕ → Type 0

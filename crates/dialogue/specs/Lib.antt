@@ -1,4 +1,4 @@
-pub mod Turns
+pub mod Talks
 pub mod Room
 pub mod Inner
 pub mod Worked

@@ -1,4 +1,4 @@
--- The graph area put together from its parts, and compared. Assumes nothing.
+-- The graph area put together from its parts. Assumes nothing.
 use mathlib.Core.Path.{_≡_, sym, _∙_, ap}
 use mathlib.Core.List.{List, _++_, append-assoc}
 use Prim.Native.Nat.{ℕ, _+_, _*_, _≤_}
@@ -17,12 +17,8 @@ use Rattle.model.specs.Shown.{shown}
 use Rattle.model.proofs.Tab.{length-tab}
 use Rattle.model.proofs.GraphArea.{length-times}
 use Rattle.model.proofs.Shown.{times-in}
-use Rattle.drawing.specs.Area.{spliced}
+use Rattle.area_parts.specs.Area.{spliced}
 use Rattle.drawing.proofs.Splice.{three, rest-is}
-
--- the count of connections by another name
-pub opened-as : {f : List ℕ} {s n m : ℕ} → Opened f s n → m ≡ n → Opened f s m
-opened-as o q = rw q o
 
 module _ (f : List ℕ) (s n : ℕ) (o : Opened f s n) where
   -- the graph area's length by the counts

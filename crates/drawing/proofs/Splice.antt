@@ -1,16 +1,13 @@
--- Parts of one list: lent and come back, and put in one after the other. Assumes nothing.
+-- Parts put into one list, one after the other. Assumes nothing.
 use mathlib.Core.Path.{_≡_, sym, _∙_}
 use mathlib.Core.List.{List, _++_, append-assoc}
-use Prim.Native.Nat.{ℕ, _+_, _-_, _≤_}
+use Prim.Native.Nat.{ℕ, _+_, _≤_}
 use native.Mathlib.Omega.{arith}
-use borrow.Rule.Slice.PartMut.{putMid, post-is}
+use borrow.Rule.Slice.PartMut.{post-is}
 use lib.ListN.{length, take, drop, length-append}
 use lib.Seq.{take-at, drop-at, take-take, take-append-le, length-take-le}
-use Rattle.drawing.specs.Area.{spliced}
-
--- a part that was lent and came back
-pub put-part : (xs ys : List ℕ) (a e : ℕ) → a ≤ e → putMid a (e - a) xs ys ≡ spliced xs a e ys
-put-part xs ys a e h = rw (post-is a e xs h, append-assoc)
+use Rattle.area_parts.specs.Area.{spliced}
+use Rattle.area_parts.proofs.Lent.{put-part}
 
 -- p stands before n, and the rest is as it was in d
 splice-more : (d p xs ys : List ℕ) (n e : ℕ) → length p ≡ n → n ≤ e → xs ≡ p ++ drop n d → spliced xs n e ys ≡ p ++ ys ++ drop e d

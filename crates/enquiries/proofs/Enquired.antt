@@ -10,7 +10,7 @@ use lib.ListN.{length, take, drop, length-append, length-drop, length-reverse}
 use lib.Seq.{drop-at}
 use Rattle.numbers.specs.Numbers.{numbersOf}
 use Rattle.numbers.proofs.Areas.{Bytes}
-use Rattle.timetable.specs.Answers.{Answer, accepted, refused}
+use Rattle.timetable.specs.Answers.{Answer, refused}
 use Rattle.timetable.specs.File.{stops, connections}
 use Rattle.timetable.specs.Check.{maxConnections, fileVerdict}
 use Rattle.timetable.specs.declared.Verdict.{Verdict}
@@ -32,18 +32,14 @@ use Rattle.codes.specs.Encoded.{codedArrival}
 use Rattle.model.specs.Drawn.{networkBy, mostGraph}
 use Rattle.fronts.specs.Fronts.{writes, lentBytes, FrontsFit, ReadBoth, WrittenBoth}
 use Rattle.fronts.proofs.Fronts.{graph-covers, connections-cover, Changed, both-front, first-front, second-front, first-whole, second-whole}
-use Rattle.enquiries.specs.Enquired.{isSearched, journeyLength, FoundRoom, EnquiryBytes}
+use Rattle.written_enquiries.specs.Found.{isSearched, journeyLength, FoundRoom}
+use Rattle.enquiries.specs.Enquired.{EnquiryBytes}
 
 -- what an enquiry has changed, and that a file passes where one was searched for
 pub record Found (day : Day) (w j : List ℕ) (answer : Answer Arrival) (w′ j′ : List ℕ) : Type 0 where
   pub file-passed : isSearched answer ≡ true → fileVerdict (day .file) ≡ Passed
   pub work-changed : Changed (writes (isSearched answer) (connections (day .file))) w w′
   pub journey-changed : Changed (journeyLength answer) j j′
-
--- an enquiry that was not searched for has no journey
-pub unsearched : (answer : Answer Arrival) → isSearched answer ≡ false → journeyLength answer ≡ 0
-unsearched (accepted v) h = absurd (true≢false h)
-unsearched (refused n p) h = refl
 
 -- an enquiry that was searched for has room for what it found
 pub found-room : {day : Day} {w j w′ j′ : List ℕ} {answer : Answer Arrival} → Found day w j answer w′ j′ → isSearched answer ≡ true

@@ -1,19 +1,8 @@
-// Readers of the graph area's entries, and of what a timetable tells beside them, for the layers above. What an entry says of an
-// accepted area is in the model's proofs/Ready and Shown.
+// Readers of the graph area's entries. What an entry says of an accepted area is in the model's proofs/Ready and Shown.
 ghost use mathlib.Core.Path.{_≡_};
 ghost use Prim.Native.Nat.{_+_, _*_, _<_};
 ghost use lib.ListN.{length};
-ghost use Rattle.timetable.specs.Room.{HasConnection};
 ghost use Rattle.model.specs.Graph.{departureIn, arrivalIn, waitingIn, transferIn, firstIn};
-ghost use Rattle.entries.specs.Timed.{boardIn, readyIn, ReadyRoom};
-
-// The board on which the departure of connection c is listed: that of its stop.
-pub fn board(file: &[u8], stops: usize, c: usize) -> u16
-    requires { ⌜ HasConnection (now file) stops c ⌝ }
-    ensures { λ r. ⌜ r ≡ boardIn (now (file .entry)) c ⌝ }
-{
-    timetable::from(file, stops, c)
-}
 
 // The expected departure of connection c.
 pub fn departure(graph: &[u16], c: usize) -> u16
@@ -29,15 +18,6 @@ pub fn arrival(graph: &[u16], c: usize) -> u16
     ensures { λ r. ⌜ r ≡ arrivalIn (now (graph .entry)) c ⌝ }
 {
     graph[2 * c + 1]
-}
-
-// When a passenger who arrives by connection c is ready to leave again.
-pub fn ready(file: &[u8], stops: usize, graph: &[u16], c: usize) -> u16
-    requires { ⌜ ReadyRoom (now file) stops (now graph) c ⌝ }
-    ensures { λ r. ⌜ r ≡ readyIn (now (file .entry)) (now (graph .entry)) c ⌝ }
-{
-    let stop = timetable::to(file, stops, c) as usize;
-    arrival(graph, c) + timetable::transfer_time(file, stop)
 }
 
 // The waiting entry of connection c, of n.

@@ -6,13 +6,14 @@ ghost use Rattle.timetable.specs.Answers.{refused};
 ghost use Rattle.timetable.specs.Accepted.{Opened};
 ghost use Rattle.timetable.specs.Check.{toldCounts};
 ghost use Rattle.timetable.specs.declared.Verdict.the-variants.{Passed};
-ghost use Rattle.model.specs.Notices.{areaWith, rowsOf, Standing};
+ghost use Rattle.model.specs.Notices.{rowsOf};
 ghost use Rattle.model.specs.Day.{dayOf, lent};
 ghost use Rattle.model.specs.Parts.{askedVerdict, roomVerdict};
 ghost use Rattle.model.specs.Operations.{outcome, written, built, posted, withdrawn};
 ghost use Rattle.model.specs.Ready.{Ready};
 ghost use Rattle.graph.specs.Answers.{toldNumber};
-ghost use Rattle.graph.specs.Call.{asksOf, standingAfter, numberIn, calledBy};
+ghost use Rattle.calls.specs.Call.{asksOf, standingAfter, calledBy};
+use calls::Call;
 use timetable::Checked;
 use timetable::Verdict;
 
@@ -40,50 +41,6 @@ pub enum Noted {
     Refused(u16, u16),
 }
 
-// A posting with number, connection and delay, or a withdrawal of a number.
-pub enum Call {
-    Post(u16, u16, u16),
-    Withdraw(u16),
-}
-
-// Whether a call passes what it asks of its own numbers, by the notices that stand.
-fn call_verdict(notices: &[u16], n: u16, call: Call) -> Verdict
-    requires { ⌜ ((C : ℕ) × Standing C (now notices)) ⌝ }
-    ensures { λ r. ⌜ r ≡ askedVerdict (rowsOf (now (notices .entry))) (asksOf n call) ⌝ }
-{
-    match call {
-        Call::Post(number, connection, delay) => {
-            asks::posting_verdict(notices, n, number, connection, delay)
-        }
-        Call::Withdraw(number) => asks::withdrawal_verdict(notices, number),
-    }
-}
-
-// The notice of a call entered or struck out.
-fn note_call(notices: &mut [u16], n: u16, call: Call)
-    requires { ⌜ Standing n (now notices) × (askedVerdict (rowsOf (now notices)) (asksOf n call) ≡ Passed) ⌝ }
-    ensures { λ _. ⌜ now (notices .exit) ≡ areaWith (standingAfter call (rowsOf (now (notices .entry)))) (now (notices .entry)) ⌝ }
-{
-    match call {
-        Call::Post(number, connection, delay) => {
-            notices::enter(notices, number, connection, delay);
-        }
-        Call::Withdraw(number) => {
-            notices::strike(notices, number);
-        }
-    }
-}
-
-// The number of a call's notice.
-fn number_of(call: Call) -> u16
-    ensures { λ r. ⌜ r ≡ numberIn call ⌝ }
-{
-    match call {
-        Call::Post(number, _, _) => number,
-        Call::Withdraw(number) => number,
-    }
-}
-
 // A call worked in an accepted timetable whose areas are right: the notice, and the graph with it.
 fn work_call(
     file: &[u8],
@@ -100,7 +57,7 @@ fn work_call(
         ≡ written (dayOf (now (file .entry))) (lent (now (notices .entry)) (now (graph .entry)))
         (standingAfter call (rowsOf (now (notices .entry)))) ⌝ }
 {
-    note_call(notices, connections, call);
+    calls::note_call(notices, connections, call);
     drawing::fill_graph(file, stops as usize, connections as usize, notices, graph);
 }
 
@@ -124,7 +81,7 @@ fn update(file: &[u8], notices: &mut [u16], graph: &mut [u16], call: Call) -> No
     let Checked::Accepted(stops, connections) = examined else {
         return refused(examined);
     };
-    let verdict = call_verdict(notices, connections, call);
+    let verdict = calls::call_verdict(notices, connections, call);
     match verdict {
         Verdict::Refused(refusal, place) => {
             return Noted::Refused(refusal, place);
@@ -132,7 +89,7 @@ fn update(file: &[u8], notices: &mut [u16], graph: &mut [u16], call: Call) -> No
         Verdict::Passed => {}
     }
     work_call(file, stops, connections, notices, graph, call);
-    Noted::Accepted(number_of(call))
+    Noted::Accepted(calls::number_of(call))
 }
 
 // A notice posted.

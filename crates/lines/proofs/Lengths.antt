@@ -8,7 +8,7 @@ use lib.ListN.{length, getD, take, length-append}
 use lib.Seq.{take-suc}
 use Rattle.decimals.specs.Bytes.{space}
 use Rattle.decimals.specs.Decimal.{maxNumber}
-use Rattle.lines.specs.Lines.{arrivesLabel, byLabel, lineEnd, labelled, numberLine, pairLine, journeyText, arrivesLine}
+use Rattle.lines.specs.Lines.{arrivesLabel, byLabel, lineEnd, labelled, numberLine, journeyText, arrivesLine}
 use Rattle.lines.specs.Room.{lineRoom, connectionRoom, arrivalRoom}
 use Rattle.decimals.proofs.Digits.{digits-five, digits-ten}
 
@@ -47,11 +47,6 @@ journey-room (c ∷ cs) h =
 -- the line of one number has room
 pub number-room : (label : List ℕ) (n : ℕ) → n < 2 ^ 32 → length label ≤ 50 → length (numberLine label n) ≤ lineRoom
 number-room label n h few = simp length-append (omega (arith, digits-ten n h))
-
--- the line of two numbers of 16 bits has room
-pub pair-room : (label : List ℕ) (n : ℕ) (second : List ℕ) (m : ℕ) → n ≤ maxNumber → m ≤ maxNumber → length label + length second ≤ 50
-    → length (pairLine label n second m) ≤ lineRoom
-pair-room label n second m h g few = simp length-append (omega (arith, digits-five n h, digits-five m g))
 
 -- the line of a journey has room, part by part and as a whole
 module _ (t : ℕ) (cs : List ℕ) (h : t ≤ maxNumber) (g : (i : ℕ) → getD cs i 0 ≤ maxNumber) where

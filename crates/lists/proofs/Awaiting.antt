@@ -12,7 +12,7 @@ use Rattle.model.specs.Graph.{board, waiting}
 use Rattle.model.proofs.Boards.{nobody, waiting-listed}
 use Rattle.model.proofs.Tab.{tab-is}
 use Rattle.model.proofs.ByCases.{by-lt, by-last}
-use Rattle.departures.specs.Order.{Each}
+use Rattle.sorting.specs.Order.{Each}
 use Rattle.lists.specs.Lists.{Departed}
 use Rattle.lists.proofs.Heads.{Head, Entered, More, entered-more, listed-one, head-more}
 

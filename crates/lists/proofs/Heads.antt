@@ -13,9 +13,9 @@ use Rattle.model.specs.Network.{Network, Sound}
 use Rattle.model.specs.Graph.{board}
 use Rattle.model.proofs.Boards.{Listed, nobody, foremost}
 use Rattle.model.proofs.ByCases.{by-last}
-use Rattle.departures.specs.Order.{Each}
+use Rattle.sorting.specs.Order.{Each}
 use Rattle.lists.specs.Lists.{Falling}
-use Rattle.departures.proofs.Stores.{each-set}
+use Rattle.sorting.proofs.Stores.{each-set}
 
 -- x is the first departure of board b of those that P names, or none
 abbrev pub Head : Network → (ℕ → Type 0) → ℕ → ℕ → Type 0

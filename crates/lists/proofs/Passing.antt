@@ -13,7 +13,7 @@ use Rattle.model.proofs.Boards.{nobody, transfer-listed, first-listed}
 use Rattle.model.proofs.PlaceOrder.{place-order, place-same}
 use Rattle.model.proofs.Tab.{tab-is}
 use Rattle.model.proofs.ByCases.{by-eq}
-use Rattle.departures.specs.Order.{Each, Slot}
+use Rattle.sorting.specs.Order.{Each, Slot}
 use Rattle.departures.specs.Events.{EventOrder}
 use Rattle.lists.specs.Lists.{Falling, Transfers}
 use Rattle.lists.proofs.Heads.{Head, Entered, Alike, More, entered-alike, entered-more, listed-one, head-alike, head-more, falling-alike, falling-more}

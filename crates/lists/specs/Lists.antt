@@ -9,7 +9,7 @@ use Rattle.model.specs.Least.{none, key, tab}
 use Rattle.model.specs.Network.{Network, Sound}
 use Rattle.model.specs.Graph.{waiting, transfer, firstDeparture}
 use Rattle.model.specs.Shown.{shown}
-use Rattle.departures.specs.Order.{Each}
+use Rattle.sorting.specs.Order.{Each}
 use Rattle.departures.specs.Events.{EventOrder}
 
 -- the first k numbers of l are those that P names, from the last departure to the first

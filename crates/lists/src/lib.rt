@@ -8,8 +8,8 @@ ghost use Rattle.timetable.specs.Accepted.{Opened};
 ghost use Rattle.timetable.specs.File.{to};
 ghost use Rattle.timetable.specs.Room.{HasConnection};
 ghost use Rattle.model.specs.Least.{none};
-ghost use Rattle.entries.specs.Timed.{boardIn};
-ghost use Rattle.departures.specs.Order.{Each};
+ghost use Rattle.boards.specs.Timed.{boardIn};
+ghost use Rattle.sorting.specs.Order.{Each};
 ghost use Rattle.lists.specs.Lists.{OrderedBySome, DepartedBySome, SweepRoom, TransfersBy, WaitingBy};
 
 // The passenger of connection c is ready: the head of the board where c arrives is c's transfer entry.
@@ -28,7 +28,7 @@ fn depart(file: &[u8], stops: usize, c: usize, k: usize, heads: &mut [u16], depa
     ensures { λ _. ⌜ now (heads .exit) ≡ set (now (heads .entry)) (boardIn (now (file .entry)) c) c ⌝ }
     ensures { λ _. ⌜ now (departed .exit) ≡ set (now (departed .entry)) k c ⌝ }
 {
-    let board = entries::board(file, stops, c) as usize;
+    let board = boards::board(file, stops, c) as usize;
     heads[board] = c as u16;
     departed[k] = c as u16;
 }
@@ -72,7 +72,7 @@ fn await_next(file: &[u8], stops: usize, c: usize, heads: &mut [u16], part: &mut
     ensures { λ _. ⌜ now (heads .exit) ≡ set (now (heads .entry)) (boardIn (now (file .entry)) c) c ⌝ }
     ensures { λ _. ⌜ now (part .exit) ≡ set (now (part .entry)) c (getD (now (heads .entry)) (boardIn (now (file .entry)) c) 0) ⌝ }
 {
-    let board = entries::board(file, stops, c) as usize;
+    let board = boards::board(file, stops, c) as usize;
     part[c] = heads[board];
     heads[board] = c as u16;
 }

@@ -22,7 +22,7 @@ use Rattle.model.proofs.GraphArea.{length-times, in-times, length-graph, waitin
 use Rattle.model.specs.Shown.{shown}
 use Rattle.model.proofs.Shown.{times-shown}
 use Rattle.timetable.specs.Accepted.{Opened}
-use Rattle.entries.proofs.Timed.{sound, departs, arrives, graph-by-times}
+use Rattle.boards.proofs.Timed.{sound, departs, arrives, graph-by-times}
 use Rattle.certificate.specs.Links.{ListsRight}
 use Rattle.certificate.specs.Telling.{Tells}
 

@@ -9,7 +9,7 @@ use lib.Dec.{eqb}
 use lib.ListN.{drop}
 use Rattle.model.specs.Notices.{width, cut, stands}
 use Rattle.model.proofs.Areas.{rowOf, cut-more}
-use Rattle.notices.proofs.StoredRow.{one-less, next-row}
+use Rattle.notices.proofs.NextRow.{one-less, next-row}
 
 -- looking through m rows from the place on
 abbrev pub toFind : List ℕ → ℕ → ℕ → ℕ → Bool

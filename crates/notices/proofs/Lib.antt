@@ -1,4 +1,2 @@
-pub mod StoredRow
+pub mod NextRow
 pub mod Finding
-pub mod Pushing
-pub mod ClosingUp

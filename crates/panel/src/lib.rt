@@ -6,7 +6,7 @@ ghost use Rattle.model.specs.Day.{dayOf};
 ghost use Rattle.model.specs.Operations.{built, posted, withdrawn, enquired, margined};
 ghost use Rattle.codes.specs.Encoded.{coded, codedCounts, codedMargin};
 ghost use Rattle.fronts.specs.Fronts.{lentBytes};
-ghost use Rattle.updates.specs.Updated.{codedBy, OutcomeBytes};
+ghost use Rattle.coded_updates.specs.Updated.{codedBy, OutcomeBytes};
 ghost use Rattle.enquiries.specs.Enquired.{EnquiryBytes};
 use updates::Update;
 

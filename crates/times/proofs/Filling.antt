@@ -9,8 +9,6 @@ use native.Mathlib.Omega.{arith}
 use lib.ListN.{length, getD, drop, set, length-append, length-drop}
 use lib.Seq.{drop-append-add, drop-drop, drop-length, sets-eq, take-at}
 use Rattle.timetable.specs.File.{connections, scheduledDeparture, scheduledArrival, staysAboard}
-use Rattle.timetable.specs.Room.{HasConnection}
-use Rattle.entries.proofs.Opened.{connection-room}
 use Rattle.model.specs.Network.{Network, lastExpected}
 use Rattle.model.specs.Notices.{mostStanding}
 use Rattle.model.specs.Graph.{times}
@@ -21,10 +19,17 @@ use Rattle.model.proofs.Times.{first-starts, departure-own, departure-after, ar
 use Rattle.timetable.specs.Accepted.{Opened}
 use Rattle.times.specs.Times.{conditionsIn, Delays, departsAt, longestTime}
 
--- the own departure stands where it is not before the arrival, or where the trip starts
-pub own-stands : (s : Bool) (own before : ℕ) → ((s ≡ true) × (before ≤ own)) ⊎ (s ≡ false) → own ≡ cond s (max own before) own
-own-stands s own before (inl w) = rw (w .0) (omega (arith, w .1))
-own-stands s own before (inr w) = rw w
+-- the later of the own departure and the arrival before, or where the trip starts the own departure
+pub later-of : (s : Bool) (own before departure : ℕ)
+    → ((s ≡ true) × (own < before) × (departure ≡ before)) ⊎ (((s ≡ true) × (before ≤ own) × (departure ≡ own)) ⊎ ((s ≡ false) × (departure ≡ own)))
+    → departure ≡ cond s (max own before) own
+later-of s own before departure (inl w) = rw (w .0) (omega (arith, w .1, w .2))
+later-of s own before departure (inr (inl w)) = rw (w .0) (omega (arith, w .1, w .2))
+later-of s own before departure (inr (inr w)) = rw (w .0) (w .1)
+
+pub later-most : (s : Bool) (own before : ℕ) → cond s (max own before) own ≤ own + before
+later-most true own before = omega arith
+later-most false own before = omega arith
 
 -- the departure by the arrival of the connection before
 pub departs-is : (f : List ℕ) (conditions : Conditions) (c before : ℕ) → ((e : ℕ) → c ≡ suc e → before ≡ expectedArrival f conditions e)
@@ -43,15 +48,10 @@ arrives-by f s n delays o d c h =
     let k : c < connections f = omega (arith, o .connections) in
     omega (arith, o .timetable .within c k, arrival-most f (o .timetable) (conditionsIn delays) mostStanding c (λ e l. d .most e (omega (arith, o .connections))) k)
 
--- what the times of connection c ask
-pub times-asked : (f : List ℕ) (s n : ℕ) (delays : List ℕ) (c before : ℕ) → Opened f s n → Delays delays n → c < n → before ≤ longestTime
-    → (HasConnection f s c × (scheduledDeparture f c ≤ scheduledArrival f c))
-    × ((before ≤ longestTime) × (getD delays c 0 ≤ longestTime) × (scheduledArrival f c ≤ longestTime))
-times-asked f s n delays c before o d h b =
-    let k : c < connections f = omega (arith, o .connections) in (
-      (connection-room o c h, omega (arith, o .timetable .forward c k)),
-      (b, omega (arith, d .most c h), omega (arith, o .timetable .within c k)),
-    )
+-- a connection of an accepted timetable departs before it arrives, which is early
+pub scheduled-early : (f : List ℕ) (s : ℕ) → Opened f s (connections f) → (c : ℕ) → c < connections f
+    → (scheduledDeparture f c ≤ scheduledArrival f c) × (scheduledArrival f c ≤ longestTime)
+scheduled-early f s o c h = (omega (arith, o .timetable .forward c h), omega (arith, o .timetable .within c h))
 
 -- one turn
 times-turn : (net : Network) (c : ℕ) (area : List ℕ) → 2 * c + 1 < length area

@@ -1,9 +1,8 @@
 // Expected times, from the timetable and the notices that stand.
 ghost use mathlib.Core.Path.{_≡_};
-ghost use Prim.Native.Nat.{_+_, _*_, _≤_};
+ghost use Prim.Native.Nat.{_*_, _<_, _≤_};
 ghost use lib.ListN.{length};
-ghost use Rattle.timetable.specs.Room.{HasConnection};
-ghost use Rattle.timetable.specs.File.{connections, scheduledDeparture, scheduledArrival};
+ghost use Rattle.timetable.specs.File.{connections};
 ghost use Rattle.model.specs.Day.{dayOf};
 ghost use Rattle.model.specs.Graph.{times};
 ghost use Rattle.timetable.specs.Accepted.{Opened};
@@ -19,24 +18,21 @@ pub struct Times {
 
 // The times of connection c with a delay of its own, where the connection before it arrives at `before`.
 fn times_at(file: &[u8], stops: usize, c: usize, delay: u16, before: u16) -> Times
-    requires { ⌜ HasConnection (now file) stops c × (scheduledDeparture (now file) c ≤ scheduledArrival (now file) c) ⌝ }
-    requires { ⌜ (before ≤ longestTime) × (delay ≤ longestTime) × (scheduledArrival (now file) c ≤ longestTime) ⌝ }
+    requires { ⌜ Opened (now file) stops (connections (now file)) × (c < connections (now file)) ⌝ }
+    requires { ⌜ (before ≤ longestTime) × (delay ≤ longestTime) ⌝ }
     ensures { λ r. ⌜ TimesAt (now (file .entry)) c delay before (r .departure) (r .arrival) ⌝ }
 {
     let scheduled = timetable::scheduled_departure(file, stops, c);
     let travel = timetable::scheduled_arrival(file, stops, c) - scheduled;
-    let own = scheduled + delay;
+    let mut departure = scheduled + delay;
     if timetable::stays_aboard(file, stops, c) {
-        if own < before {
-            return Times {
-                departure: before,
-                arrival: before + travel,
-            };
+        if departure < before {
+            departure = before;
         }
     }
     Times {
-        departure: own,
-        arrival: own + travel,
+        departure,
+        arrival: departure + travel,
     }
 }
 

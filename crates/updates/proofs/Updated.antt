@@ -7,7 +7,7 @@ use native.Mathlib.Omega.{arith}
 use lib.ListN.{length, take, drop, length-append, length-drop, drop-of-length-le}
 use lib.Seq.{drop-length, drop-at}
 use Rattle.numbers.proofs.Areas.{Bytes}
-use Rattle.timetable.specs.Answers.{Answer, isAccepted}
+use Rattle.timetable.specs.Answers.{isAccepted}
 use Rattle.timetable.specs.File.{headerLength, connections}
 use Rattle.timetable.specs.Check.{fileVerdict, countsOf}
 use Rattle.timetable.specs.declared.Verdict.{Verdict}
@@ -16,7 +16,7 @@ use Rattle.timetable.proofs.Accepted.{accepted-iff}
 use Rattle.model.specs.Notices.{Notice, notice, noticesLength, entered, struck}
 use Rattle.model.specs.Day.{Day, Areas, lent}
 use Rattle.model.specs.Parts.{partVerdict, verdict, buildingParts, callParts, postingAsks, withdrawalAsks}
-use Rattle.model.specs.Operations.{Outcome, outcome, concluded, built, changed}
+use Rattle.model.specs.Operations.{concluded, built, changed}
 use Rattle.model.proofs.Fronts.{behind, fronts, front-built, front-changed}
 use Rattle.codes.specs.Encoded.{coded, codedCounts}
 use Rattle.model.specs.Drawn.{graphLength, graphFor, standing, mostGraph}
@@ -25,19 +25,9 @@ use Rattle.model.proofs.Parts.{call-passed}
 use Rattle.model.proofs.Ready.{graph-long}
 use Rattle.fronts.specs.Fronts.{writes, lentBytes, FrontsFit, ReadBoth, WrittenBoth}
 use Rattle.fronts.proofs.Fronts.{graph-covers, Changed, both-front, first-whole, second-whole}
-use Rattle.updates.specs.declared.Update.{Update}
-use Rattle.updates.specs.declared.Update.the-variants.{Build, Post, Withdraw}
-use Rattle.updates.specs.Updated.{CodedOutcome, codedOutcome, codedBy, updated, UpdatedNumbers, OutcomeBytes}
-
--- an outcome with its answer as a number
-pub coded-outcome : {A : Type 0} (coding : Answer A → ℕ) {r : ℕ} {answer : Answer A} {areas : Areas} {o : Outcome A} → r ≡ coding answer
-    → outcome answer areas ≡ o → codedOutcome r areas ≡ codedBy coding o
-coded-outcome coding {r} {answer} {areas} p q = rw p (ap (codedBy coding) q)
-
--- and whether it is accepted
-pub told-outcome : {A : Type 0} {r : Bool} {answer : Answer A} {areas : Areas} {o : Outcome A} → r ≡ isAccepted answer
-    → outcome answer areas ≡ o → r ≡ isAccepted (o .answer)
-told-outcome {A} p q = p ∙ ap (λ (o : Outcome A). isAccepted (o .answer)) q
+use Rattle.coded_updates.specs.declared.Update.{Update}
+use Rattle.coded_updates.specs.declared.Update.the-variants.{Build, Post, Withdraw}
+use Rattle.coded_updates.specs.Updated.{CodedOutcome, codedOutcome, codedBy, updated, UpdatedNumbers, OutcomeBytes}
 
 -- the fronts of both areas
 abbrev front : Areas → Areas

@@ -1,5 +1,5 @@
 -- `certificate::change_right` meets its contract: one law for each return. Assumes nothing.
-use Rattle.entries.proofs.Opened.{ready-room}
+use Rattle.boards.proofs.Opened.{ready-room}
 use Rattle.certificate.proofs.Entry.{Arrives, last-room, change-nobody, change-past, change-elsewhere, change-early, change-leads}
 use borrow.Author.Needs.{needs}
 use Rattle.certificate.proofs.change_right.Statement.{statement}

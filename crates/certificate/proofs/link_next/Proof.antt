@@ -2,7 +2,7 @@
 use mathlib.Core.Path.{sym, _∙_}
 use native.Mathlib.Omega.{arith}
 use borrow.Author.Tests.{not-true, not-false}
-use Rattle.entries.proofs.Opened.{board-below}
+use Rattle.boards.proofs.Opened.{board-below}
 use Rattle.certificate.proofs.Marks.{departure-fits, next-none, next-past, next-wrong, next-early, next-right}
 use borrow.Author.Needs.{needs}
 use Rattle.certificate.proofs.link_next.Statement.{statement}

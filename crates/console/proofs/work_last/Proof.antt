@@ -4,7 +4,7 @@ use mathlib.Core.List.{[]}
 use borrow.Author.Needs.{needs}
 use Rattle.model.specs.Day.{dayOf, lent}
 use Rattle.input.specs.Lines.{plain}
-use Rattle.dialogue.specs.Turns.{state}
+use Rattle.turns.specs.Turns.{state}
 use Rattle.console.proofs.work_last.Statement.{statement}
 use Rattle.console.proofs.work_last.Tie as tie
 

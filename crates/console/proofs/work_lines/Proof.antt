@@ -2,8 +2,8 @@
 -- Assumes nothing.
 use borrow.Author.Needs.{needs}
 use lib.ListN.{length}
+use Rattle.streams.specs.Room.{InBlock}
 use Rattle.dialogue.proofs.Talks.{SameLength}
-use Rattle.console.specs.Room.{InBlock}
 use Rattle.console.proofs.work_lines.Statement.{statement}
 use Rattle.console.proofs.work_lines.Tie as tie
 

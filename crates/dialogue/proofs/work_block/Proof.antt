@@ -8,7 +8,7 @@ use lib.ListN.{length, drop, length-drop}
 use Rattle.model.specs.Day.{dayOf, lent}
 use Rattle.input.specs.Lines.{wholeLine}
 use Rattle.input.proofs.Whole.{none-whole, stop-within}
-use Rattle.dialogue.specs.Turns.{state}
+use Rattle.turns.specs.Turns.{state}
 use Rattle.dialogue.specs.Worked.{Talked}
 use Rattle.dialogue.proofs.Talks.{SameLength, talked-none, talked-turn}
 use Rattle.dialogue.proofs.work_block.Statement.{statement}

@@ -10,7 +10,7 @@ use Rattle.model.specs.Notices.{rowsOf}
 use Rattle.model.specs.Times.{networkOf}
 use Rattle.model.proofs.GraphArea.{length-times}
 use Rattle.drawing.proofs.Splice.{front-taken}
-use Rattle.entries.proofs.Timed.{timed, graph-by-times}
+use Rattle.boards.proofs.Timed.{timed, graph-by-times}
 use Rattle.drawing.proofs.Drawing.{drawn-over}
 use borrow.Author.Needs.{needs}
 use Rattle.drawing.proofs.fill_graph.Statement.{statement}

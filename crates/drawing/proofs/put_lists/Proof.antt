@@ -4,8 +4,8 @@ use native.Mathlib.Omega.{arith}
 use lib.ListN.{length-replicate}
 use Rattle.timetable.specs.Check.{maxStops, maxConnections}
 use Rattle.model.specs.Least.{none}
-use Rattle.entries.proofs.Fronts.{own-length}
-use Rattle.departures.proofs.Sorting.{own-each, own-front-each}
+use Rattle.boards.proofs.Fronts.{own-length}
+use Rattle.sorting.proofs.Sorting.{own-each, own-front-each}
 use borrow.Author.Needs.{needs}
 use Rattle.drawing.proofs.put_lists.Statement.{statement}
 use Rattle.drawing.proofs.put_lists.Tie as tie

@@ -9,7 +9,7 @@ use Rattle.model.specs.Notices.{Notice}
 use Rattle.model.specs.Day.{Day, Areas, dayOf, lent}
 use Rattle.model.specs.Drawn.{standing}
 use Rattle.model.specs.Parts.{Ask, askedVerdict, openVerdict}
-use Rattle.graph.specs.Call.{asksOf, standingAfter, numberIn}
+use Rattle.calls.specs.Call.{asksOf, standingAfter, numberIn}
 use Rattle.model.proofs.Operations.{open-refuses, own-refuses, accepts}
 use Rattle.model.proofs.Ready.{open-ready, opened-passed, opened-refused}
 use borrow.Author.Needs.{needs}

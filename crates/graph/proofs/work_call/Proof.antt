@@ -7,9 +7,9 @@ use Rattle.model.specs.Notices.{Notice, rowsOf, WellFormed}
 use Rattle.model.specs.Day.{Day, Areas, dayOf, lent}
 use Rattle.model.specs.Parts.{askedVerdict}
 use Rattle.model.proofs.Ready.{graph-room}
-use Rattle.graph.specs.Call.{asksOf, standingAfter}
+use Rattle.calls.specs.Call.{asksOf, standingAfter}
 use Rattle.model.proofs.Written.{written-standing, both-written}
-use Rattle.graph.proofs.Calls.{call-formed}
+use Rattle.calls.proofs.Calls.{call-formed}
 use borrow.Author.Needs.{needs}
 use Rattle.graph.proofs.work_call.Statement.{statement}
 use Rattle.graph.proofs.work_call.Tie as tie

@@ -1,8 +1,9 @@
 -- `lines::write_counts` meets its contract: a line of two numbers. Assumes nothing.
 use native.Mathlib.Omega.{arith}
 use borrow.Author.Needs.{needs}
-use Rattle.lines.specs.Lines.{stopsLabel, connectionsLabel, countsLine}
-use Rattle.lines.proofs.Lengths.{pair-room}
+use lib.ListN.{length-append}
+use Rattle.lines.specs.Lines.{countsLine}
+use Rattle.decimals.proofs.Digits.{digits-five}
 use Rattle.lines.proofs.write_counts.Statement.{statement}
 use Rattle.lines.proofs.write_counts.Tie as tie
 
@@ -15,10 +16,9 @@ slice-aggregate-write-pair-2 c = search needs
 write-pair-requires : tie.Need-write-pair-requires
 write-pair-requires c κs =
     let b = c .before .before .before .before in
-    let n = b .args .stops in
-    let m = b .args .connections in
-    let r = pair-room stopsLabel n connectionsLabel m (omega (arith, b .fits .stops)) (omega (arith, b .fits .connections)) (omega arith) in
-    omega (arith, r, b .pre)
+    let r = digits-five (b .args .stops) (omega (arith, b .fits .stops)) in
+    let s = digits-five (b .args .connections) (omega (arith, b .fits .connections)) in
+    simp length-append (omega (arith, r, s, b .pre))
 
 same-length : tie.Need-same-length
 same-length c = search needs

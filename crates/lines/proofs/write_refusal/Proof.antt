@@ -1,8 +1,9 @@
 -- `lines::write_refusal` meets its contract: a line of two numbers. Assumes nothing.
 use native.Mathlib.Omega.{arith}
 use borrow.Author.Needs.{needs}
-use Rattle.lines.specs.Lines.{refusalLabel, placeLabel, refusalLine}
-use Rattle.lines.proofs.Lengths.{pair-room}
+use lib.ListN.{length-append}
+use Rattle.lines.specs.Lines.{refusalLine}
+use Rattle.decimals.proofs.Digits.{digits-five}
 use Rattle.lines.proofs.write_refusal.Statement.{statement}
 use Rattle.lines.proofs.write_refusal.Tie as tie
 
@@ -15,10 +16,9 @@ slice-aggregate-write-pair-2 c = search needs
 write-pair-requires : tie.Need-write-pair-requires
 write-pair-requires c κs =
     let b = c .before .before .before .before in
-    let n = b .args .number in
-    let m = b .args .place in
-    let r = pair-room refusalLabel n placeLabel m (omega (arith, b .fits .number)) (omega (arith, b .fits .place)) (omega arith) in
-    omega (arith, r, b .pre)
+    let r = digits-five (b .args .number) (omega (arith, b .fits .number)) in
+    let s = digits-five (b .args .place) (omega (arith, b .fits .place)) in
+    simp length-append (omega (arith, r, s, b .pre))
 
 same-length : tie.Need-same-length
 same-length c = search needs

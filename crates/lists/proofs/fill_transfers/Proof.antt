@@ -8,9 +8,9 @@ use lib.ListN.{length}
 use Rattle.timetable.specs.File.{connections}
 use Rattle.model.specs.Least.{none}
 use Rattle.model.specs.Shown.{shown}
-use Rattle.entries.proofs.Opened.{connection-room, board-below, to-below}
-use Rattle.departures.specs.Counts.{at}
-use Rattle.departures.specs.Order.{Slot}
+use Rattle.boards.proofs.Opened.{connection-room, board-below, to-below}
+use Rattle.sorting.specs.Counts.{at}
+use Rattle.sorting.specs.Order.{Slot}
 use Rattle.departures.specs.Events.{EventOrder}
 use Rattle.lists.proofs.Passing.{Swept, swept-start, swept-skip, swept-ready, swept-depart, swept-end}
 use borrow.Author.Needs.{needs}

@@ -3,8 +3,8 @@ use native.Mathlib.Omega.{arith}
 use Prim.Native.Nat.{_≤_}
 use Rattle.timetable.specs.Check.{maxStops}
 use Rattle.model.specs.Least.{none}
-use Rattle.entries.proofs.Fronts.{own-length}
-use Rattle.departures.proofs.Sorting.{own-front-each}
+use Rattle.boards.proofs.Fronts.{own-length}
+use Rattle.sorting.proofs.Sorting.{own-front-each}
 use borrow.Author.Needs.{needs}
 use Rattle.lists.proofs.fill_waiting.Statement.{statement}
 use Rattle.lists.proofs.fill_waiting.Tie as tie

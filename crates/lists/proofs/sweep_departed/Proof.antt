@@ -6,8 +6,8 @@ use native.Mathlib.Omega.{arith}
 use lib.ListN.{length}
 use Rattle.model.specs.Least.{none}
 use Rattle.model.specs.Shown.{shown}
-use Rattle.entries.proofs.Opened.{connection-room, board-below}
-use Rattle.departures.specs.Counts.{at}
+use Rattle.boards.proofs.Opened.{connection-room, board-below}
+use Rattle.sorting.specs.Counts.{at}
 use Rattle.lists.specs.Lists.{Departed}
 use Rattle.lists.proofs.Awaiting.{Waited, waited-start, waited-more, waited-all}
 use borrow.Author.Needs.{needs}

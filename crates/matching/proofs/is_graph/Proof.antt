@@ -11,7 +11,7 @@ use Rattle.model.specs.Graph.{times}
 use Rattle.model.specs.Notices.{rowsOf}
 use Rattle.model.specs.Times.{networkOf}
 use Rattle.model.proofs.Lists.{same-eq}
-use Rattle.entries.proofs.Timed.{timed}
+use Rattle.boards.proofs.Timed.{timed}
 use Rattle.matching.proofs.Certified.{judged, no-times}
 use Rattle.matching.proofs.is_graph.Statement.{statement}
 use Rattle.matching.proofs.is_graph.Tie as tie

@@ -7,8 +7,9 @@ use Rattle.timetable.specs.declared.Verdict.the-variants.{Passed}
 use Rattle.model.specs.Day.{Day, Areas, dayOf, lent}
 use Rattle.model.specs.Parts.{askedVerdict, enquiryAsks}
 use Rattle.model.proofs.Shown.{readable}
-use Rattle.search.specs.Lent.{lentVerdict}
-use Rattle.search.proofs.Enquiries.{lent-room, lent-ready, enquired-lent, enquired-asked, enquired-found}
+use Rattle.requests.specs.Lent.{lentVerdict}
+use Rattle.requests.proofs.Room.{lent-room, lent-ready}
+use Rattle.search.proofs.Enquiries.{enquired-lent, enquired-asked, enquired-found}
 use borrow.Author.Needs.{needs}
 use Rattle.search.proofs.enquire_by.Statement.{statement}
 use Rattle.search.proofs.enquire_by.Tie as tie

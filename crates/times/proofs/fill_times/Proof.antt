@@ -10,7 +10,7 @@ use Rattle.model.specs.Graph.{times}
 use Rattle.model.specs.Times.{Conditions, travelTime, expectedDeparture, expectedArrival}
 use Rattle.model.proofs.Times.{travel-kept}
 use Rattle.times.specs.Times.{conditionsIn, networkIn, departsAt, longestTime}
-use Rattle.times.proofs.Filling.{departs-is, arrives-by, times-asked, times-more, times-done}
+use Rattle.times.proofs.Filling.{departs-is, arrives-by, times-more, times-done}
 use Rattle.times.proofs.fill_times.Statement.{statement}
 use Rattle.times.proofs.fill_times.Tie as tie
 
@@ -36,7 +36,9 @@ times-at-requires : tie.Need-times-at-requires Inv-loop μ-loop
 times-at-requires c κs =
     let a = c .before .before in
     let s = a .before .before .before .before in
-    times-asked (s .args .file .now) (s .args .stops) (s .args .n) (s .args .delays .now) (a .loop .c) (a .loop .before) (s .pre .0) (s .pre .1) (c .before .loop-test .taken) (a .loop .inv .3)
+    let o = s .pre .0 in
+    let l = c .before .loop-test .taken in
+    ((rw (← o .connections) o, omega (arith, o .connections)), (a .loop .inv .3, omega (arith, s .pre .1 .most (a .loop .c) l)))
 
 mul-area : tie.Need-mul-area Inv-loop μ-loop
 mul-area c = search needs

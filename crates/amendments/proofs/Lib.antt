@@ -1,0 +1,3 @@
+pub mod StoredRow
+pub mod Pushing
+pub mod ClosingUp
