@@ -9,7 +9,8 @@ ghost use Rattle.model.specs.Graph.{times};
 ghost use Rattle.model.specs.Times.{networkOf};
 ghost use Rattle.timetable.specs.File.{connections};
 ghost use Rattle.timetable.specs.Accepted.{Opened};
-ghost use Rattle.lists.specs.Lists.{OrderedBySome, DepartedBySome, SweepRoom, TransfersBy, WaitingBy};
+ghost use Rattle.lists.specs.Lists.{DepartedBySome, WaitingBy};
+ghost use Rattle.transfers.specs.Transfers.{OrderedBySome, SweepRoom, TransfersBy};
 ghost use Rattle.area_parts.specs.Area.{spliced, PartFilled};
 
 // The expected times to the front of the area.
@@ -39,7 +40,7 @@ pub fn put_transfers(
 {
     let start = 3 * n;
     let end = 4 * n;
-    lists::fill_transfers(
+    transfers::fill_transfers(
         file,
         stops,
         n,

@@ -19,7 +19,7 @@ use Rattle.model.specs.Runs.{called, runOf, overAreas, registerOf, Held}
 use Rattle.codes.specs.Encoded.{numberSize, coded, codedCounts, codedArrival}
 use Rattle.fronts.specs.Fronts.{lentBytes}
 use Rattle.coded_updates.specs.Updated.{CodedOutcome, codedBy, OutcomeBytes}
-use Rattle.enquiries.specs.Enquired.{EnquiryBytes}
+use Rattle.front_enquiries.specs.Enquired.{EnquiryBytes}
 
 -- both areas of bytes
 pub record ByteAreas : Type 0 where

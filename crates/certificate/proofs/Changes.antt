@@ -9,7 +9,9 @@ use Rattle.model.specs.Network.{Network, Sound, lastExpected}
 use Rattle.model.specs.Graph.{board, ready, waiting, transfer, firstDeparture}
 use Rattle.model.proofs.ByCases.{by-lt}
 use Rattle.model.proofs.Boards.{ChangeOn, Listed, nobody, foremost, Behind, waiting-listed, transfer-listed, first-listed, entry-first}
-use Rattle.certificate.specs.Links.{nextOf, changeOf, LinksRight, Mark, missed, first, next, Marks, Last, followed, unfollowed, Lasts, AllMarked, ChangeLink, nobody, leads}
+use Rattle.links.specs.Links.{nextOf, Mark, missed, first, next, Marks, Last, followed, unfollowed, Lasts}
+use Rattle.changes.specs.Changes.{changeOf, ChangeLink, nobody, leads}
+use Rattle.certificate.specs.Lists.{LinksRight, AllMarked}
 use Rattle.certificate.proofs.Links.{first-led, next-led, right-first, right-next}
 
 module _ (net : Network) (sound : Sound net) (g : List ℕ) (right : LinksRight net g) where

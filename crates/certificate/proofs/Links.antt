@@ -11,8 +11,9 @@ use Rattle.model.specs.Network.{Network, Sound}
 use Rattle.model.specs.Graph.{board, waiting, firstDeparture}
 use Rattle.model.proofs.ByCases.{by-lt}
 use Rattle.model.proofs.Boards.{Listed, nobody, foremost, Behind, waiting-listed, first-listed, entry-first, entry-holds}
-use Rattle.certificate.proofs.Marks.{first-leads, next-leads}
-use Rattle.certificate.specs.Links.{firstOf, nextOf, LinksRight, FirstLink, NextLink, nobody, leads, Mark, missed, first, next, Marks, AllMarked}
+use Rattle.links.proofs.Marks.{first-leads, next-leads}
+use Rattle.links.specs.Links.{firstOf, nextOf, FirstLink, NextLink, nobody, leads, Mark, missed, first, next, Marks}
+use Rattle.certificate.specs.Lists.{LinksRight, AllMarked}
 
 module _ (net : Network) (sound : Sound net) (g : List ℕ) where
   abbrev n : ℕ

@@ -9,12 +9,14 @@ use Rattle.timetable.specs.Check.{maxStops, maxConnections}
 use Rattle.timetable.specs.File.{stops, connections}
 use Rattle.model.specs.Least.{none}
 use Rattle.model.specs.Shown.{shown}
-use Rattle.certificate.specs.Links.{FirstLink, NextLink, ChangeLink, Marks, Lasts, AllMarked, LinksRight, ListsRight}
-use Rattle.certificate.specs.Links.Mark.{missed}
-use Rattle.certificate.specs.Links.Last.{followed}
+use Rattle.links.specs.Links.{FirstLink, NextLink, Marks, Lasts}
+use Rattle.links.specs.Links.Mark.{missed}
+use Rattle.links.specs.Links.Last.{followed}
+use Rattle.changes.specs.Changes.{ChangeLink}
+use Rattle.certificate.specs.Lists.{AllMarked, LinksRight, ListsRight}
 use Rattle.boards.specs.Timed.{Timed}
 use Rattle.boards.proofs.Fronts.{own-length, own-holds}
-use Rattle.certificate.specs.Telling.{NextsLinked, NoneMissed}
+use Rattle.links.specs.Telling.{NextsLinked, NoneMissed}
 use Rattle.certificate.proofs.Links.{links-right, right-first, right-next, right-marked}
 use Rattle.certificate.proofs.Changes.{change-right, right-change}
 

@@ -1,2 +1,2 @@
-pub mod Links
+pub mod Lists
 pub mod Telling

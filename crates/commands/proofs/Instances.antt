@@ -4,9 +4,10 @@ use mathlib.Core.List.{[], _∷_, map}
 use lib.ListN.{replicate}
 use Rattle.decimals.specs.Decimal.{allDigits, valueAfter, decimal}
 use Rattle.model.specs.Drawn.{same}
+use Rattle.meanings.specs.Meanings.{asked}
+use Rattle.meanings.specs.declared.Command.the-variants.{Post, Withdraw, Enquire, Margin, Unreadable}
 use Rattle.commands.specs.Words.{onFirst, words}
-use Rattle.commands.specs.Commands.{asked, meant, commandOf}
-use Rattle.commands.specs.declared.Command.the-variants.{Post, Withdraw, Enquire, Margin, Unreadable}
+use Rattle.commands.specs.Commands.{meant, commandOf}
 
 -- "p 7 1 10", "w 65535", "w 00007", "q 0 2 595", "m 0 4"
 pub lines-read : map commandOf

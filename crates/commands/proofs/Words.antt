@@ -10,9 +10,9 @@ use borrow.Author.Tests.{eq-eqb, ne-eqb}
 use lib.ListN.{length, getD, take, drop, drop-of-length-le, length-drop}
 use lib.Seq.{drop-cons, drop-drop, take-all}
 use Rattle.decimals.specs.Bytes.{space}
+use Rattle.meanings.specs.declared.Command.the-variants.{Unreadable}
 use Rattle.commands.specs.Words.{onFirst, words, spacedWords, first, firstWord}
 use Rattle.commands.specs.Commands.{commandOf}
-use Rattle.commands.specs.declared.Command.the-variants.{Unreadable}
 use Rattle.model.proofs.ByCases.{by-eq}
 
 -- the words of a text that starts with a space

@@ -17,10 +17,12 @@ use Rattle.model.specs.Parts.{partVerdict}
 use Rattle.model.specs.Operations.{built, changed, enquired, margined}
 use Rattle.model.specs.Example.{exampleJ, inBytes}
 use Rattle.decimals.specs.Decimal.{allDigits, valueAfter, decimal, lastDigits, decimalOf}
+use Rattle.meanings.specs.Meanings.{asked}
 use Rattle.commands.specs.Words.{onFirst, words}
-use Rattle.commands.specs.Commands.{asked, meant, commandOf}
+use Rattle.commands.specs.Commands.{meant, commandOf}
 use Rattle.input.specs.Lines.{linesOf}
-use Rattle.lines.specs.Lines.{journeyText, countsLine, arrivesLine, postedLine, refusalLine, marginLine, textOf}
+use Rattle.arrivals.specs.Arrivals.{journeyText, arrivesLine}
+use Rattle.lines.specs.Lines.{countsLine, postedLine, refusalLine, marginLine, textOf}
 use Rattle.turns.specs.Turns.{turnOf}
 use Rattle.dialogue.specs.Talks.{talk}
 use Rattle.console.specs.Printed.{printed}

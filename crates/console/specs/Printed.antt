@@ -11,7 +11,7 @@ use Rattle.model.specs.Drawn.{mostGraph}
 use Rattle.model.specs.Operations.{built}
 use Rattle.input.specs.Lines.{commandsOf}
 use Rattle.lines.specs.Lines.{textOf}
-use Rattle.replies.specs.Replies.{lineOf, sayCounts}
+use Rattle.written_replies.specs.Replies.{lineOf, sayCounts}
 use Rattle.turns.specs.Turns.{state}
 use Rattle.dialogue.specs.Talks.{Talk, talk}
 

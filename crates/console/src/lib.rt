@@ -3,7 +3,7 @@
 ghost use Prim.Native.Nat.{_≤_};
 ghost use lib.ListN.{length};
 ghost use Rattle.timetable.specs.Check.{maxConnections};
-ghost use Rattle.lines.specs.Room.{lineRoom};
+ghost use Rattle.labels.specs.Room.{lineRoom};
 ghost use Rattle.streams.specs.Room.{InBlock};
 use streams::Input;
 

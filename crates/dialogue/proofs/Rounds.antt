@@ -7,7 +7,7 @@ use lib.ListN.{length, take, drop, take-append-drop}
 use lib.Seq.{take-at}
 use Rattle.model.specs.Day.{Day}
 use Rattle.commands.specs.Commands.{commandOf}
-use Rattle.commands.specs.declared.Command.{Command}
+use Rattle.meanings.specs.declared.Command.{Command}
 use Rattle.input.specs.Lines.{linesOf, plain, commandsOf, heldRoom}
 use Rattle.input.proofs.Holding.{held-same, last-line}
 use Rattle.lines.specs.Lines.{textOf}

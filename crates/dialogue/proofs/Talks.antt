@@ -7,11 +7,11 @@ use lib.ListN.{length, take, drop, drop-of-length-le, length-append, length-take
 use lib.Seq.{take-all, take-at, drop-append-add, drop-drop}
 use Rattle.model.specs.Day.{Day}
 use Rattle.commands.specs.Commands.{commandOf}
-use Rattle.commands.specs.declared.Command.{Command}
+use Rattle.meanings.specs.declared.Command.{Command}
 use Rattle.input.specs.Lines.{linesOf, wholeLine, commandsOf}
 use Rattle.input.proofs.Whole.{whole-none, stop-within, lines-turn, whole-turn}
 use Rattle.lines.specs.Lines.{textOf}
-use Rattle.lines.specs.Room.{LineIs}
+use Rattle.labels.specs.Room.{LineIs}
 use Rattle.turns.specs.Turns.{State, Turn, turnOf}
 use Rattle.turns.specs.Worked.{Worked}
 use Rattle.dialogue.specs.Talks.{talked, talk}

@@ -1,7 +1,7 @@
 -- The room that the longest answer needs. Assumes nothing.
 use Prim.Native.Nat.{ℕ}
 use Rattle.timetable.specs.Check.{maxConnections}
-use Rattle.lines.specs.Room.{arrivalRoom}
+use Rattle.arrivals.specs.Room.{arrivalRoom}
 
 -- how much room the longest answer needs: a journey of as many connections as a timetable may have
 abbrev pub answerRoom : ℕ

@@ -2,7 +2,7 @@
 use mathlib.Core.List.{List, [], _∷_, _++_}
 use Prim.Native.Nat.{ℕ}
 use Rattle.model.specs.Day.{Day}
-use Rattle.commands.specs.declared.Command.{Command}
+use Rattle.meanings.specs.declared.Command.{Command}
 use Rattle.lines.specs.Lines.{textOf}
 use Rattle.turns.specs.Turns.{State, turnOf}
 

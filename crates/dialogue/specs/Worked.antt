@@ -6,7 +6,7 @@ use Prim.Native.Nat.{ℕ, _≤_, _+_, _<_}
 use lib.ListN.{take, length, drop}
 use Rattle.model.specs.Day.{Day}
 use Rattle.input.specs.Lines.{plain, WholeLines, commandsOf}
-use Rattle.lines.specs.Room.{LineIs}
+use Rattle.labels.specs.Room.{LineIs}
 use Rattle.dialogue.specs.declared.Progress.{Progress}
 use Rattle.turns.specs.Turns.{State}
 use Rattle.dialogue.specs.Talks.{talk}

@@ -4,14 +4,14 @@ ghost use lib.ListN.{length, drop};
 ghost use Rattle.timetable.specs.Check.{maxConnections};
 ghost use Rattle.model.specs.Day.{dayOf, lent};
 ghost use Rattle.commands.specs.Commands.{commandOf};
-ghost use Rattle.replies.specs.Said.{OutRoom};
+ghost use Rattle.written_replies.specs.Said.{OutRoom};
 ghost use Rattle.turns.specs.Turns.{state, turnOf};
 ghost use Rattle.dialogue.specs.Inner.{Added};
 ghost use Rattle.dialogue.specs.Worked.{Progressed};
 
 // Room for the longest answer, a journey's: `answerRoom`.
-pub const ANSWER_ROOM: usize = lines::EMPTY_JOURNEY_ROOM
-    + lines::CONNECTION_ROOM * timetable::MAX_CONNECTIONS;
+pub const ANSWER_ROOM: usize = arrivals::EMPTY_JOURNEY_ROOM
+    + arrivals::CONNECTION_ROOM * timetable::MAX_CONNECTIONS;
 
 // How far a block is worked, how many bytes the answers have, and whether there is no room for another.
 pub struct Progress {

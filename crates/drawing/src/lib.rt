@@ -10,7 +10,7 @@ ghost use Rattle.timetable.specs.File.{connections};
 ghost use Rattle.timetable.specs.Accepted.{Opened};
 ghost use Rattle.boards.specs.Timed.{Timed};
 ghost use Rattle.departures.specs.Events.{EventOrder};
-ghost use Rattle.lists.specs.Lists.{SweepRoom};
+ghost use Rattle.transfers.specs.Transfers.{SweepRoom};
 ghost use Rattle.drawing.specs.Area.{withLists};
 
 // The three parts behind the times, by which the events are ordered.

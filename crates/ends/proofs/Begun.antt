@@ -6,8 +6,8 @@ use Rattle.timetable.specs.Answers.{Answer}
 use Rattle.timetable.specs.Check.{Counts}
 use Rattle.model.specs.Day.{Areas}
 use Rattle.model.specs.Operations.{Outcome, outcome}
-use Rattle.replies.specs.declared.Begun.{Begun}
-use Rattle.replies.specs.Said.{Said}
+use Rattle.written_replies.specs.declared.Begun.{Begun}
+use Rattle.written_replies.specs.Said.{Said}
 use Rattle.ends.specs.Built.{Built}
 
 pub said-built : {r : Begun} {out out₀ : List ℕ} {answer : Answer Counts} {areas : Areas} {o : Outcome Counts}

@@ -8,7 +8,7 @@ use Rattle.commands.specs.Commands.{commandOf}
 use Rattle.input.specs.Lines.{plain}
 use Rattle.input.proofs.Holding.{open-unreadable}
 use Rattle.lines.specs.Lines.{refusal, textOf}
-use Rattle.lines.specs.Room.{LineIs}
+use Rattle.labels.specs.Room.{LineIs}
 use Rattle.replies.specs.Replies.{unreadable}
 use Rattle.turns.specs.Turns.{State, turnOf}
 use Rattle.turns.specs.Worked.{Worked}

@@ -8,11 +8,11 @@ ghost use Rattle.model.specs.Day.{Day, dayOf, lent};
 ghost use Rattle.model.specs.Operations.{built};
 ghost use Rattle.commands.specs.Commands.{commandOf};
 ghost use Rattle.input.specs.Lines.{plain};
-ghost use Rattle.lines.specs.Room.{lineRoom};
+ghost use Rattle.labels.specs.Room.{lineRoom};
 ghost use Rattle.turns.specs.Turns.{State, turnOf};
 ghost use Rattle.turns.specs.Worked.{Worked};
 ghost use Rattle.ends.specs.Built.{Built};
-use replies::Begun;
+use written_replies::Begun;
 
 // Builds; the answer's line stands at the front of out.
 pub fn begin(file: &[u8], notices: &mut [u16], graph: &mut [u16], out: &mut [u8]) -> Begun
@@ -22,7 +22,7 @@ pub fn begin(file: &[u8], notices: &mut [u16], graph: &mut [u16], out: &mut [u8]
         (built (dayOf (now (file .entry))) (lent (now (notices .entry)) (now (graph .entry)))) ⌝ }
 {
     let checked = graph::build(file, notices, graph);
-    replies::write_built(checked, out)
+    written_replies::write_built(checked, out)
 }
 
 // Works a line that no newline ends, whatever it holds and whatever the desk has; the length of the answer, which stands at the front of

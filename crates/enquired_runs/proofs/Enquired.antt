@@ -9,7 +9,7 @@ use Rattle.model.specs.Operations.{built, Arrival, Enquiry, enquiry}
 use Rattle.model.specs.Runs.{registerOf}
 use Rattle.model.proofs.Runs.{building-is, run-built, network-kept}
 use Rattle.search.specs.Answered.{Answered}
-use Rattle.runs.specs.Calls.{callsWorked}
+use Rattle.run_calls.specs.Calls.{callsWorked}
 use Rattle.runs.specs.Whole.{Whole}
 use Rattle.runs.proofs.Building.{keeps-register}
 use Rattle.enquired_runs.specs.Enquiring.{Enquiring}

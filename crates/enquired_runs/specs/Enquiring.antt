@@ -14,7 +14,7 @@ use Rattle.model.specs.Operations.{Enquiry}
 use Rattle.model.specs.Meaning.{Means}
 use Rattle.model.specs.Runs.{overAreas, registerOf}
 use Rattle.search.specs.Answered.{Answered}
-use Rattle.runs.specs.Calls.{callsWorked}
+use Rattle.run_calls.specs.Calls.{callsWorked}
 use Rattle.runs.specs.Whole.{Claimed, Whole}
 
 -- an enquiry from stop a to stop b at time t after a run that left this register

@@ -13,7 +13,7 @@ use lib.Seq.{take-all, take-take, take-suc, drop-cons, set-at, append-snoc, getD
 use Rattle.decimals.specs.Bytes.{newline}
 use Rattle.commands.specs.Words.{onFirst, first}
 use Rattle.commands.specs.Commands.{maxLine, commandOf}
-use Rattle.commands.specs.declared.Command.the-variants.{Unreadable}
+use Rattle.meanings.specs.declared.Command.the-variants.{Unreadable}
 use Rattle.input.specs.Lines.{linesOf, plain, commandsOf, heldRoom, HeldBack}
 use Rattle.input.proofs.Lines.{plain-open, plain-lines}
 use Rattle.model.proofs.ByCases.{by-lt, and-left, and-right, and-both}

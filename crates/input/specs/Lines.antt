@@ -8,7 +8,7 @@ use lib.ListN.{length, take, drop}
 use Rattle.decimals.specs.Bytes.{newline}
 use Rattle.commands.specs.Words.{onFirst, first}
 use Rattle.commands.specs.Commands.{maxLine, commandOf}
-use Rattle.commands.specs.declared.Command.{Command}
+use Rattle.meanings.specs.declared.Command.{Command}
 
 -- the lines of an input, each with the newline that ends it; what stands after the last newline is a line too, if it has a byte
 unfoldable pub linesOf : List ℕ → List (List ℕ)

@@ -11,8 +11,10 @@ use lib.IntN.{ℤ, pos, negsuc, natAbs}
 use lib.ListN.{length, getD, drop}
 use Rattle.decimals.specs.Bytes.{digitZero, digitNine}
 use Rattle.decimals.specs.Decimal.{isDigit, allDigits, valueAfter, valueOf, decimalOf}
-use Rattle.lines.specs.Lines.{connectionsLabel, byLabel, placeLabel, lineEnd, labelled, journeyText}
-use Rattle.lines.specs.Lines.{countsLine, arrivesLine, postedLine, withdrawnLine, refusalLine, marginLine}
+use Rattle.labels.specs.Labels.{lineEnd, labelled}
+use Rattle.arrivals.specs.Arrivals.{byLabel, journeyText, arrivesLine}
+use Rattle.lines.specs.Lines.{connectionsLabel, placeLabel}
+use Rattle.lines.specs.Lines.{countsLine, postedLine, withdrawnLine, refusalLine, marginLine}
 use Rattle.lines.specs.Lines.{Line, counts, arrives, posted, withdrawn, refusal, margin, textOf}
 use Rattle.decimals.proofs.Digits.{digits-only, digits-some, value-is}
 use Rattle.timetable.proofs.Tests.{and-left, and-right}

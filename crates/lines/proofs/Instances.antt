@@ -3,7 +3,8 @@ use mathlib.Core.Path.{_≡_, refl}
 use mathlib.Core.List.{[], _∷_, map}
 use lib.IntN.{pos, negsuc}
 use Rattle.decimals.specs.Decimal.{lastDigits, decimalOf}
-use Rattle.lines.specs.Lines.{journeyText, countsLine, arrivesLine, postedLine, withdrawnLine, refusalLine, marginLine}
+use Rattle.arrivals.specs.Arrivals.{journeyText, arrivesLine}
+use Rattle.lines.specs.Lines.{countsLine, postedLine, withdrawnLine, refusalLine, marginLine}
 use Rattle.lines.specs.Lines.{counts, arrives, posted, withdrawn, refusal, margin, textOf}
 
 -- "stops 3 rides 5", "arrives 640 by 0 1", "arrives 700 by", "posted 7", "withdrawn 7", "no 30 at 0", "margin -1",

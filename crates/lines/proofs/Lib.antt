@@ -1,5 +1,3 @@
-pub mod Texts
-pub mod Lengths
 pub mod Signed
 pub mod Distinct
 pub mod Instances

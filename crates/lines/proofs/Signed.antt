@@ -10,7 +10,8 @@ use lib.Signed.{mag, ltZ, nonNeg}
 use mir.Syntax.{w32}
 use mir.Val.{Fits, SFits, toZ, ofZ}
 use mir.Facts.{toZ-ofZ}
-use Rattle.lines.specs.Lines.{marginLabel, minusLabel, numberLine, marginLine}
+use Rattle.labels.specs.Labels.{numberLine}
+use Rattle.lines.specs.Lines.{marginLabel, minusLabel, marginLine}
 
 -- a number below 0, turned round at -1
 turned : (z : ℤ) → ltZ z (pos 0) ≡ true → negsuc 0 -ℤ z ≡ pos (natAbs z - 1)

@@ -1,9 +1,9 @@
 -- The answer lines, each with the newline that ends it. Assumes nothing.
-use mathlib.Core.List.{List, [], _∷_, _++_}
+use mathlib.Core.List.{List, [], _∷_}
 use Prim.Native.Nat.{ℕ, suc}
 use lib.IntN.{ℤ, pos, negsuc}
-use Rattle.decimals.specs.Bytes.{newline, space}
-use Rattle.decimals.specs.Decimal.{decimalOf}
+use Rattle.labels.specs.Labels.{numberLine, pairLine}
+use Rattle.arrivals.specs.Arrivals.{arrivesLine}
 
 -- "stops "
 abbrev pub stopsLabel : List ℕ
@@ -12,14 +12,6 @@ stopsLabel = 115 ∷ 116 ∷ 111 ∷ 112 ∷ 115 ∷ 32 ∷ []
 -- " rides "
 abbrev pub connectionsLabel : List ℕ
 connectionsLabel = 32 ∷ 114 ∷ 105 ∷ 100 ∷ 101 ∷ 115 ∷ 32 ∷ []
-
--- "arrives "
-abbrev pub arrivesLabel : List ℕ
-arrivesLabel = 97 ∷ 114 ∷ 114 ∷ 105 ∷ 118 ∷ 101 ∷ 115 ∷ 32 ∷ []
-
--- " by"
-abbrev pub byLabel : List ℕ
-byLabel = 32 ∷ 98 ∷ 121 ∷ []
 
 -- "posted "
 abbrev pub postedLabel : List ℕ
@@ -45,34 +37,9 @@ marginLabel = 109 ∷ 97 ∷ 114 ∷ 103 ∷ 105 ∷ 110 ∷ 32 ∷ []
 abbrev pub minusLabel : List ℕ
 minusLabel = 109 ∷ 97 ∷ 114 ∷ 103 ∷ 105 ∷ 110 ∷ 32 ∷ 45 ∷ []
 
--- how a line ends
-abbrev pub lineEnd : List ℕ
-lineEnd = newline ∷ []
-
--- a label and the number after it
-abbrev pub labelled : List ℕ → ℕ → List ℕ
-labelled label n = label ++ decimalOf n
-
--- a line of one number with its label
-abbrev pub numberLine : List ℕ → ℕ → List ℕ
-numberLine label n = labelled label n ++ lineEnd
-
--- a line of two numbers, each with its label
-abbrev pub pairLine : List ℕ → ℕ → List ℕ → ℕ → List ℕ
-pairLine label n second m = labelled label n ++ labelled second m ++ lineEnd
-
--- the connections of a journey, each after a space
-unfoldable pub journeyText : List ℕ → List ℕ
-journeyText [] = []
-journeyText (c ∷ cs) = labelled (space ∷ []) c ++ journeyText cs
-
 -- stops 3 rides 5
 unfoldable pub countsLine : ℕ → ℕ → List ℕ
 countsLine stops connections = pairLine stopsLabel stops connectionsLabel connections
-
--- arrives 640 by 0 1
-unfoldable pub arrivesLine : ℕ → List ℕ → List ℕ
-arrivesLine time journey = labelled arrivesLabel time ++ byLabel ++ journeyText journey ++ lineEnd
 
 -- posted 7
 unfoldable pub postedLine : ℕ → List ℕ

@@ -1,4 +1,3 @@
 pub mod Copying
 pub mod Heads
-pub mod Passing
 pub mod Awaiting

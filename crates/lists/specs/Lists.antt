@@ -1,16 +1,14 @@
--- What the fillers of the departure lists rely on and leave. They are told no times: what holds, holds for all times by which the
--- events, or the departures, are so ordered. Assumes nothing.
+-- What the filler of the waiting entries relies on and leaves. It is told no times: what holds, holds for all times by which the
+-- departures are so ordered. Assumes nothing.
 use mathlib.Core.Path.{_≡_}
 use mathlib.Core.List.{List}
-use Prim.Native.Nat.{ℕ, _+_, _<_, _≤_}
+use Prim.Native.Nat.{ℕ, _<_, _≤_}
 use lib.ListN.{length, getD}
 use Rattle.timetable.specs.File.{connections}
-use Rattle.model.specs.Least.{none, key, tab}
+use Rattle.model.specs.Least.{key, tab}
 use Rattle.model.specs.Network.{Network, Sound}
-use Rattle.model.specs.Graph.{waiting, transfer, firstDeparture}
+use Rattle.model.specs.Graph.{waiting}
 use Rattle.model.specs.Shown.{shown}
-use Rattle.sorting.specs.Order.{Each}
-use Rattle.departures.specs.Events.{EventOrder}
 
 -- the first k numbers of l are those that P names, from the last departure to the first
 pub record Falling (net : Network) (P : ℕ → Type 0) (k : ℕ) (l : List ℕ) : Type 0 where
@@ -23,26 +21,6 @@ pub record Falling (net : Network) (P : ℕ → Type 0) (k : ℕ) (l : List ℕ)
 pub record Departed (net : Network) (k : ℕ) (l : List ℕ) : Type 0 where
   pub sound : Sound net
   pub falling : Falling net (λ d. d < net .connections) k l
-
--- transfer entries, first departures and departures of a network
-pub record Transfers (net : Network) (k : ℕ) (heads departed part : List ℕ) : Type 0 where
-  pub transfer-entries : part ≡ tab (transfer net) (net .connections)
-  pub first-departures : heads ≡ tab (firstDeparture net) (net .stops)
-  pub departures : Departed net k departed
-
--- events ordered by some times
-abbrev pub OrderedBySome : List ℕ → List ℕ → Type 0
-OrderedBySome f order = (g : List ℕ) × EventOrder (shown f g) order
-
--- room to sweep over the events of s stops and n connections: heads, all none, and departures
-pub record SweepRoom (s n : ℕ) (heads departed : List ℕ) : Type 0 where
-  pub heads-empty : Each (λ b x. x ≡ none) heads
-  pub heads-long : length heads ≡ s
-  pub departed-long : n + n ≤ length departed
-
--- filled by the order of events
-abbrev pub TransfersBy : List ℕ → List ℕ → ℕ → List ℕ → List ℕ → List ℕ → Type 0
-TransfersBy f order k heads departed part = (g : List ℕ) → EventOrder (shown f g) order → Transfers (shown f g) k heads departed part
 
 -- departures by some times
 abbrev pub DepartedBySome : List ℕ → ℕ → List ℕ → Type 0

@@ -23,8 +23,8 @@ use Rattle.model.specs.Shown.{shown}
 use Rattle.model.proofs.Shown.{times-shown}
 use Rattle.timetable.specs.Accepted.{Opened}
 use Rattle.boards.proofs.Timed.{sound, departs, arrives, graph-by-times}
-use Rattle.certificate.specs.Links.{ListsRight}
-use Rattle.certificate.specs.Telling.{Tells}
+use Rattle.links.specs.Telling.{Tells}
+use Rattle.certificate.specs.Lists.{ListsRight}
 
 module _ (net : Network) (g : List ℕ) where
   abbrev n : ℕ

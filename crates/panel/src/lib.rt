@@ -7,7 +7,7 @@ ghost use Rattle.model.specs.Operations.{built, posted, withdrawn, enquired, ma
 ghost use Rattle.codes.specs.Encoded.{coded, codedCounts, codedMargin};
 ghost use Rattle.fronts.specs.Fronts.{lentBytes};
 ghost use Rattle.coded_updates.specs.Updated.{codedBy, OutcomeBytes};
-ghost use Rattle.enquiries.specs.Enquired.{EnquiryBytes};
+ghost use Rattle.front_enquiries.specs.Enquired.{EnquiryBytes};
 use updates::Update;
 
 // Checks a file.

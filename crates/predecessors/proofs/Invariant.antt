@@ -24,9 +24,11 @@ use Rattle.model.proofs.Follows.{Aboard, Change, follow-means, change-follows, 
 use Rattle.model.proofs.Boards.{change-on, on-change, Behind, waiting-listed, transfer-listed, entry-holds, entry-first}
 use Rattle.model.proofs.Rounds.{length-predecessors, numbered}
 use Rattle.model.proofs.Journeys.{pred, Before, Entry, itself, lowest, nothing, entry}
-use Rattle.visits.specs.Visits.{settled, visited, turned}
+use Rattle.settling.specs.Settled.{settled}
+use Rattle.visits.specs.Visits.{visited, turned}
 use Rattle.model.proofs.PlaceOrder.{Rises, place-early, place-order, place-le, place-same}
-use Rattle.visits.proofs.Steps.{aboard-positive, turn-visits, turn-skips}
+use Rattle.settling.proofs.Steps.{aboard-positive}
+use Rattle.visits.proofs.Steps.{turn-visits, turn-skips}
 use Rattle.predecessors.proofs.Visited.{Leaves, visited-leaves}
 
 module _ (net : Network) (a t : ℕ) (place : ℕ → ℕ) where

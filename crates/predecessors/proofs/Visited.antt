@@ -11,7 +11,8 @@ use Rattle.model.specs.Least.{none}
 use Rattle.model.specs.Network.{Network}
 use Rattle.model.specs.Graph.{waiting, transfer}
 use Rattle.model.proofs.ByCases.{by-lt, by-eq}
-use Rattle.visits.specs.Visits.{offered, settled, passedOn, visited}
+use Rattle.settling.specs.Settled.{settled}
+use Rattle.visits.specs.Visits.{offered, passedOn, visited}
 use Rattle.visits.proofs.Steps.{length-passed-on, length-visited}
 
 -- what an offer leaves at c

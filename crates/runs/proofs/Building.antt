@@ -11,10 +11,10 @@ use Rattle.model.specs.Register.{Call}
 use Rattle.model.specs.Runs.{ran, runOf, registerOf}
 use Rattle.model.proofs.Verdicts.{accepted-not-refused}
 use Rattle.model.proofs.Runs.{Keeps, building-is, length-kept, run-agrees, held}
-use Rattle.runs.specs.Calls.{answerWidth, callsWorked, toldNumbers}
-use Rattle.runs.specs.Ended.{Ended}
+use Rattle.run_calls.specs.Calls.{answerWidth, callsWorked, toldNumbers}
+use Rattle.run_calls.specs.Ended.{Ended}
 use Rattle.runs.specs.Whole.{wholeRun, Claimed, Whole}
-use Rattle.runs.proofs.Turn.{length-told}
+use Rattle.run_calls.proofs.Turn.{length-told}
 
 -- where the building is accepted, what the run of the definition leaves is as the claim says
 module _ (day : Day) (areas₀ : Areas) (calls answers₀ : List ℕ) (areas : Areas) (answers : List ℕ) (counts : Counts) (h : built day areas₀ .answer ≡ accepted counts)

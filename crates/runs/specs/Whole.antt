@@ -8,7 +8,7 @@ use Rattle.timetable.specs.Check.{Counts}
 use Rattle.model.specs.Day.{Day, Areas}
 use Rattle.model.specs.Register.{Call}
 use Rattle.model.specs.Runs.{Run, runOf, registerOf, Held}
-use Rattle.runs.specs.Calls.{answerWidth, callsWorked, toldNumbers}
+use Rattle.run_calls.specs.Calls.{answerWidth, callsWorked, toldNumbers}
 
 -- the claim about a run of a day's calls, of what it left: areas that began as areas₀, and answers that began as answers₀
 pub record Claimed (day : Day) (areas₀ : Areas) (calls : List Call) (answers₀ : List ℕ) (areas : Areas) (answers : List ℕ) : Type 0 where

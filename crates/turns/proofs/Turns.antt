@@ -12,10 +12,11 @@ use Rattle.model.specs.Operations.{Outcome, outcome, Arrival, enquired, margine
 use Rattle.model.specs.Meaning.{Journey, Means}
 use Rattle.search.specs.Answered.{Answered}
 use Rattle.lines.specs.Lines.{Line, margin, textOf}
-use Rattle.lines.specs.Room.{LineIs}
-use Rattle.replies.specs.declared.Reply.{Reply}
-use Rattle.replies.specs.Replies.{lineOf, sayArrival}
-use Rattle.replies.specs.Said.{lineIn, Fits, Counted}
+use Rattle.labels.specs.Room.{LineIs}
+use Rattle.written_replies.specs.declared.Reply.{Reply}
+use Rattle.written_replies.specs.Replies.{lineOf}
+use Rattle.written_replies.specs.Said.{lineIn, Fits}
+use Rattle.replies.specs.Replies.{sayArrival, Counted}
 use Rattle.turns.specs.Turns.{State, Turn, state, turn, changing, enquiring}
 use Rattle.turns.specs.Worked.{Performed, Worked}
 

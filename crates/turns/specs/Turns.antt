@@ -3,10 +3,11 @@ use mathlib.Core.List.{List}
 use Prim.Native.Nat.{ℕ}
 use Rattle.model.specs.Day.{Day, Areas}
 use Rattle.model.specs.Operations.{Outcome, Enquiry, posted, withdrawn, enquired, margined}
-use Rattle.commands.specs.declared.Command.{Command}
-use Rattle.commands.specs.declared.Command.the-variants as C
+use Rattle.meanings.specs.declared.Command.{Command}
+use Rattle.meanings.specs.declared.Command.the-variants as C
 use Rattle.lines.specs.Lines as L
-use Rattle.replies.specs.Replies.{unreadable, lineOf, sayArrival}
+use Rattle.written_replies.specs.Replies.{lineOf}
+use Rattle.replies.specs.Replies.{unreadable, sayArrival}
 
 -- what the desk has from line to line: both areas, and the areas of the predecessors and of the journey
 pub record State : Type 0 where

@@ -3,9 +3,9 @@ use mathlib.Core.Path.{_≡_}
 use mathlib.Core.List.{List}
 use Prim.Native.Nat.{ℕ}
 use Rattle.lines.specs.Lines.{textOf}
-use Rattle.lines.specs.Room.{LineIs}
-use Rattle.replies.specs.declared.Reply.{Reply}
-use Rattle.replies.specs.Said.{lineIn, Fits}
+use Rattle.labels.specs.Room.{LineIs}
+use Rattle.written_replies.specs.declared.Reply.{Reply}
+use Rattle.written_replies.specs.Said.{lineIn, Fits}
 use Rattle.turns.specs.Turns.{State, Turn, turn}
 
 -- a reply that is a turn's line, with what the turn leaves

@@ -1,11 +1,11 @@
 // What the desk says to a line of a dispatcher, and what it has afterwards: a turn of the dialogue. No input and no output.
 ghost use Rattle.model.specs.Day.{dayOf, lent};
 ghost use Rattle.commands.specs.Commands.{commandOf};
-ghost use Rattle.replies.specs.Said.{OutRoom};
+ghost use Rattle.written_replies.specs.Said.{OutRoom};
 ghost use Rattle.turns.specs.Turns.{state, turnOf};
 ghost use Rattle.turns.specs.Worked.{Performed, Worked};
-use commands::Command;
-use replies::Reply;
+use meanings::Command;
+use written_replies::Reply;
 
 // The refusal of a line that is no command: `unreadable`.
 pub const UNREADABLE: u16 = 18;
@@ -70,5 +70,5 @@ pub fn work_line(
 {
     let command = commands::read_command(line);
     let reply = perform(file, notices, graph, work, journey, command);
-    replies::write_reply(reply, journey, out)
+    written_replies::write_reply(reply, journey, out)
 }

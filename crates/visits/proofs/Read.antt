@@ -1,57 +1,31 @@
--- What the readers of the timetable and of the graph area ask and tell at a connection. Assumes nothing.
-use mathlib.Core.Path.{_≡_, sym, _∙_}
-use mathlib.Core.Bool.{true, false}
+-- What the readers of the graph area ask and tell of a connection's arcs. Assumes nothing.
+use mathlib.Core.Path.{_≡_, _∙_}
 use mathlib.Core.List.{List}
-use Prim.Native.Nat.{ℕ, _+_, _*_, _<_, _≤_}
+use Prim.Native.Nat.{ℕ, _+_, _*_, _<_}
 use native.Mathlib.Omega.{arith}
-use borrow.Author.Tests.{eq-eqb, ne-eqb}
-use lib.Dec.{leb}
 use lib.ListN.{length}
-use Rattle.timetable.specs.File.{connections, from, staysAboard}
+use Rattle.timetable.specs.File.{connections}
 use Rattle.timetable.specs.Room.{HasConnection}
-use Rattle.model.specs.Graph.{waiting, transfer, departureIn, waitingIn, transferIn}
-use Rattle.model.specs.Journeys.{canBeFirst}
+use Rattle.model.specs.Graph.{waiting, transfer, waitingIn, transferIn}
 use Rattle.model.specs.Shown.{shown, Readable}
 use Rattle.model.proofs.Shown.{readable-room, waiting-shown, transfer-shown}
-use Rattle.visits.proofs.Steps.{aboard-positive}
+use Rattle.settling.proofs.Read.{below}
 
--- whether d can be first, by its stop and its departure
-module _ (f graph : List ℕ) (d a t x : ℕ) (e : x ≡ from f d) where
-  -- at stop a it can if it leaves at t or later
-  pub first-here : x ≡ a → (y : ℕ) → y ≡ departureIn graph d → leb t y ≡ canBeFirst (shown f graph) a t d
-  unfolding canBeFirst
-  first-here q y g = rw (eq-eqb (from f d) a (sym e ∙ q), g)
+-- the arcs of a connection of areas that can be read
+module _ (f graph : List ℕ) (s d : ℕ) (r : Readable f graph) (h : HasConnection f s d) (n : ℕ) (e : n ≡ connections f) where
+  inside : d < connections f
+  inside = below f graph s d r h
 
-  -- elsewhere it cannot
-  pub first-elsewhere : (x ≡ a → ⊥) → false ≡ canBeFirst (shown f graph) a t d
-  unfolding canBeFirst
-  first-elsewhere u = rw (ne-eqb (from f d) a (λ q. u (e ∙ q)))
+  -- there is room for them
+  pub has-waiting : 2 * n + d < length graph
+  has-waiting = omega (arith, inside, readable-room f graph r)
 
--- a connection of areas that can be read
-module _ (f graph : List ℕ) (s d : ℕ) (r : Readable f graph) (h : HasConnection f s d) where
-  pub below : d < connections f
-  below = let l = r .timetable .long in let c = h .count in let m = h .room in omega arith
+  pub has-transfer : 3 * n + d < length graph
+  has-transfer = omega (arith, inside, readable-room f graph r)
 
-  -- there is room for its departure
-  pub has-departure : 2 * d < length graph
-  has-departure = omega (arith, below, readable-room f graph r)
+  -- they are the network's
+  pub waiting-is : (w : ℕ) → w ≡ waitingIn graph n d → w ≡ waiting (shown f graph) d
+  waiting-is w q = q ∙ rw e (waiting-shown f graph r d inside)
 
-  -- if it stays aboard it is not the first connection
-  pub has-before : staysAboard f d ≡ true → 1 ≤ d
-  has-before e = aboard-positive (shown f graph) d (r .sound) e
-
-  -- its arcs
-  module _ (n : ℕ) (e : n ≡ connections f) where
-    -- there is room for them
-    pub has-waiting : 2 * n + d < length graph
-    has-waiting = omega (arith, below, readable-room f graph r)
-
-    pub has-transfer : 3 * n + d < length graph
-    has-transfer = omega (arith, below, readable-room f graph r)
-
-    -- they are the network's
-    pub waiting-is : (w : ℕ) → w ≡ waitingIn graph n d → w ≡ waiting (shown f graph) d
-    waiting-is w q = q ∙ rw e (waiting-shown f graph r d below)
-
-    pub transfer-is : (x : ℕ) → x ≡ transferIn graph n d → x ≡ transfer (shown f graph) d
-    transfer-is x q = q ∙ rw e (transfer-shown f graph r d below)
+  pub transfer-is : (x : ℕ) → x ≡ transferIn graph n d → x ≡ transfer (shown f graph) d
+  transfer-is x q = q ∙ rw e (transfer-shown f graph r d inside)

@@ -1,25 +1,17 @@
 -- One visit of the pass over the connections, in terms of lists. Assumes nothing.
-use mathlib.Core.Bool.{cond, _&&_}
+use mathlib.Core.Bool.{cond}
 use mathlib.Core.List.{List}
-use Prim.Native.Nat.{ℕ, _-_, min}
+use Prim.Native.Nat.{ℕ, min}
 use lib.Dec.{ltb}
 use lib.ListN.{getD, set}
 use Rattle.model.specs.Least.{none}
 use Rattle.model.specs.Network.{Network}
 use Rattle.model.specs.Graph.{waiting, transfer}
-use Rattle.model.specs.Journeys.{canBeFirst}
-use Rattle.model.specs.Predecessors.{reachedIn}
+use Rattle.settling.specs.Settled.{settled}
 
 -- e is offered to x, which keeps the lower of e and what it has
 unfoldable pub offered : List ℕ → ℕ → ℕ → List ℕ
 offered work x e = set work x (min (getD work x none) e)
-
--- the entry that d gets on its visit
-unfoldable pub settled : Network → ℕ → ℕ → List ℕ → ℕ → ℕ
-settled net a t work d =
-    cond (canBeFirst net a t d) d
-    (cond (net .staysAboard d && reachedIn work (d - 1)) (min (getD work d none) (d - 1))
-    (getD work d none))
 
 -- what d has collected goes on along its waiting arc, and d gets its entry
 unfoldable pub passedOn : Network → ℕ → ℕ → List ℕ → ℕ → List ℕ

@@ -5,8 +5,8 @@ use native.Mathlib.Omega.{arith}
 use borrow.Author.Count.{below-more}
 use borrow.Author.Needs.{needs}
 use Rattle.model.specs.Shown.{shown}
-use Rattle.certificate.specs.Links.{ChangeLink}
-use Rattle.certificate.proofs.Telling.{tells-yes, tells-no, told-yes, told-no}
+use Rattle.changes.specs.Changes.{ChangeLink}
+use Rattle.links.proofs.Telling.{tells-yes, tells-no, told-yes, told-no}
 use Rattle.certificate.proofs.changes_right.Statement.{statement}
 use Rattle.certificate.proofs.changes_right.Tie as tie
 

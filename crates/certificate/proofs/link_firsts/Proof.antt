@@ -8,9 +8,9 @@ use borrow.Author.Needs.{needs}
 use borrow.Author.Count.{below-more}
 use borrow.Author.Tests.{not-false}
 use Rattle.model.specs.Shown.{shown}
-use Rattle.certificate.specs.Links.{FirstLink}
-use Rattle.certificate.specs.Telling.{FirstsLinked}
-use Rattle.certificate.proofs.Telling.{told, denied, told-yes, told-no}
+use Rattle.links.specs.Links.{FirstLink}
+use Rattle.links.specs.Telling.{FirstsLinked}
+use Rattle.links.proofs.Telling.{told, denied, told-yes, told-no}
 use Rattle.certificate.proofs.link_firsts.Statement.{statement}
 use Rattle.certificate.proofs.link_firsts.Tie as tie
 

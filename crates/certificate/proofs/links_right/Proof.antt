@@ -1,6 +1,6 @@
 -- `certificate::links_right` meets its contract: lists that fail a step are not right, and those that pass all four are. Assumes nothing.
 use borrow.Author.Tests.{not-false}
-use Rattle.certificate.proofs.Telling.{tells-no, tells-as, told-yes, told-no}
+use Rattle.links.proofs.Telling.{tells-no, tells-as, told-yes, told-no}
 use Rattle.certificate.proofs.Whole.{firsts-pass, nexts-pass, marks-pass, changes-pass, passed-right}
 use borrow.Author.Needs.{needs}
 use Rattle.certificate.proofs.links_right.Statement.{statement}

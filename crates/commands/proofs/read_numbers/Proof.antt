@@ -7,8 +7,9 @@ use native.Mathlib.Omega.{arith}
 use borrow.Author.Needs.{needs}
 use lib.ListN.{length, drop, drop-of-length-le}
 use Rattle.decimals.specs.Decimal.{decimal}
+use Rattle.meanings.specs.Meanings.{withNumber}
 use Rattle.commands.specs.Words.{spacedWords}
-use Rattle.commands.specs.Commands.{withNumber, gathered}
+use Rattle.commands.specs.Commands.{gathered}
 use Rattle.commands.proofs.Words.{next-within, next-word}
 use Rattle.commands.proofs.read_numbers.Statement.{statement}
 use Rattle.commands.proofs.read_numbers.Tie as tie

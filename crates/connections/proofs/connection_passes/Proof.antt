@@ -1,4 +1,4 @@
--- `acceptance::connection_passes` meets its contract. Assumes nothing.
+-- `connections::connection_passes` meets its contract. Assumes nothing.
 use Rattle.timetable.proofs.Rules.{connection-tests}
 use borrow.Author.Needs.{needs}
 use Rattle.connections.proofs.connection_passes.Statement.{statement}

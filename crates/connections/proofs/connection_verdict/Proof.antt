@@ -1,4 +1,4 @@
--- `acceptance::connection_verdict` meets its contract. Assumes nothing.
+-- `connections::connection_verdict` meets its contract. Assumes nothing.
 use Rattle.timetable.specs.Check.{connectionVerdict}
 use borrow.Author.Needs.{needs}
 use Rattle.connections.proofs.connection_verdict.Statement.{statement}

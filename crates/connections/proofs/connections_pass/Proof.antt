@@ -1,4 +1,4 @@
--- `acceptance::connections_pass` meets its contract. Assumes nothing.
+-- `connections::connections_pass` meets its contract. Assumes nothing.
 use mathlib.Core.Path.{refl, sym, _∙_}
 use native.Mathlib.Omega.{arith}
 use Rattle.timetable.specs.Answers.{firstBelow}

@@ -1,4 +1,4 @@
--- `acceptance::connections_verdict` meets its contract. Assumes nothing.
+-- `connections::connections_verdict` meets its contract. Assumes nothing.
 use mathlib.Core.Path.{sym, _∙_}
 use Rattle.timetable.specs.Answers.{firstBelow}
 use Rattle.timetable.specs.Check.{connectionVerdict}

@@ -1,4 +1,4 @@
--- `acceptance::find_refusal` meets its contract. The invariant: every connection passed by passes. Assumes nothing.
+-- `connections::find_refusal` meets its contract. The invariant: every connection passed by passes. Assumes nothing.
 use borrow.Author.Needs.{needs}
 use mathlib.Core.Path.{_≡_, sym, _∙_}
 use Prim.Native.Nat.{_≤_, _-_}

@@ -1,4 +1,4 @@
--- `acceptance::later_pass` meets its contract. The invariant: every connection passed by passes. Assumes nothing.
+-- `connections::later_pass` meets its contract. The invariant: every connection passed by passes. Assumes nothing.
 use borrow.Author.Needs.{needs}
 use borrow.Author.Tests.{not-true, not-false}
 use mathlib.Core.Path.{_≡_, refl, sym, _∙_}

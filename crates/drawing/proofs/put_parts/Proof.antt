@@ -1,7 +1,7 @@
 -- `drawing::put_parts` meets its contract: the parts are the departure lists of what the area shows. Assumes nothing.
 use native.Mathlib.Omega.{arith}
 use Rattle.model.specs.Shown.{shown}
-use Rattle.lists.specs.Lists.{Transfers}
+use Rattle.transfers.specs.Transfers.{Transfers}
 use Rattle.drawing.proofs.Drawing.{parts-drawn}
 use borrow.Author.Needs.{needs}
 use Rattle.drawing.proofs.put_parts.Statement.{statement}

@@ -3,7 +3,7 @@ use borrow.Author.Needs.{needs}
 use Rattle.ends.proofs.Begun.{said-built}
 use Rattle.ends.proofs.begin.Statement.{statement}
 use Rattle.ends.proofs.begin.Tie as tie
-use Rattle.replies.proofs.write_built.Reads as write-built-reads
+use Rattle.written_replies.proofs.write_built.Reads as write-built-reads
 use Rattle.graph.proofs.build.Reads as build-reads
 
 build-requires : tie.Need-build-requires

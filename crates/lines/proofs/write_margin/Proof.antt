@@ -2,7 +2,7 @@
 use native.Mathlib.Omega.{arith}
 use borrow.Author.Needs.{needs}
 use Rattle.lines.specs.Lines.{marginLabel, minusLabel}
-use Rattle.lines.proofs.Lengths.{number-room}
+use Rattle.labels.proofs.Lengths.{number-room}
 use Rattle.lines.proofs.Signed.{margin-minus, margin-plus}
 use Rattle.lines.proofs.write_margin.Statement.{statement}
 use Rattle.lines.proofs.write_margin.Tie as tie

@@ -2,7 +2,7 @@
 use native.Mathlib.Omega.{arith}
 use borrow.Author.Needs.{needs}
 use Rattle.lines.specs.Lines.{postedLabel, postedLine}
-use Rattle.lines.proofs.Lengths.{number-room}
+use Rattle.labels.proofs.Lengths.{number-room}
 use Rattle.lines.proofs.write_posted.Statement.{statement}
 use Rattle.lines.proofs.write_posted.Tie as tie
 

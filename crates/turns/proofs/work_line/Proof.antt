@@ -5,7 +5,7 @@ use Rattle.turns.proofs.work_line.Statement.{statement}
 use Rattle.turns.proofs.work_line.Tie as tie
 use Rattle.commands.proofs.read_command.Reads as read-command-reads
 use Rattle.turns.proofs.perform.Reads as perform-reads
-use Rattle.replies.proofs.write_reply.Reads as write-reply-reads
+use Rattle.written_replies.proofs.write_reply.Reads as write-reply-reads
 
 read-command-requires : tie.Need-read-command-requires
 read-command-requires c κs = search needs

@@ -6,9 +6,10 @@ use borrow.Author.Needs.{needs}
 use lib.ListN.{length, set}
 use Rattle.model.specs.Network.{Network}
 use Rattle.model.specs.Shown.{shown}
+use Rattle.settling.proofs.Read.{below}
 use Rattle.visits.specs.Visits.{passedOn}
 use Rattle.visits.proofs.Steps.{passed-on-is, visit-reached, visit-unreached, length-visited}
-use Rattle.visits.proofs.Read.{below, has-waiting, has-transfer, waiting-is, transfer-is}
+use Rattle.visits.proofs.Read.{has-waiting, has-transfer, waiting-is, transfer-is}
 use Rattle.visits.proofs.visit.Statement.{statement}
 use Rattle.visits.proofs.visit.Tie as tie
 
