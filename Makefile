@@ -1,4 +1,4 @@
-.PHONY: test demo lib bench fuzz
+.PHONY: test demo programs lib bench fuzz
 
 SHELL = /bin/bash
 .SHELLFLAGS = -o pipefail -c
@@ -16,6 +16,10 @@ demo: needs-rt
 	@.ci/prover check desk 2>&1 | grep --line-buffered -Ev '^(library |logic[ =]|fn .*: proved$$|axioms |linked )'
 	@echo 'desk < commands:'
 	@cd example && ../target/bin/desk < commands
+
+# The programs, proved and run on example J: target/bin/desk, gtfs_import and gtfs_export.
+programs: needs-rt
+	@.ci/prover check desk gtfs_import gtfs_export 2>&1 | grep --line-buffered -Ev '^(library |logic[ =]|fn .*: proved$$|axioms |linked )'
 
 # The static library for C: target/staticlib/libpanel.a, with include/ttg.h.
 lib: needs-rt

@@ -1,13 +1,14 @@
 /* Olovrant: the library's functions for C.
  *
- * Slices. A slice is a pointer and a length in bytes. `file` is a timetable file, and each of its bytes counts. Every other slice is
- * an area of numbers of 16 bits, low byte first: it may start at any address and have any length, and an odd last byte is neither
- * counted nor changed. A null pointer with length 0 is an empty slice. Areas must not overlap each other or the file: that is
- * the caller's duty. Whatever the bytes hold, each function answers or refuses; it reads and writes nothing outside the slices.
- * A connection is called a ride in the names here.
+ * Slices. A slice is a pointer and a length in bytes. `file` is a timetable file and `text` is stop_times.txt of GTFS: each of their bytes
+ * counts. Every other slice is an area of numbers of 16 bits, low byte first: it may start at any address and have any length, and an
+ * odd last byte is neither counted nor changed. A null pointer with length 0 is an empty slice. The slices of a call must not
+ * overlap: that is the caller's duty. Whatever the bytes hold, each function answers or refuses; it reads and writes nothing outside
+ * the slices. A connection is called a ride in the names here.
  *
  * Refusals. A refused call writes nothing; refusal 30 alone fills `work`, as an answer does. An accepted call writes no more than the
- * stated length of an area (the sizes below), and of `journey` no more than the journey has.
+ * stated length of an area (the sizes below), of `journey` no more than the journey has, and of what an import or an export makes no more
+ * than the bytes it answers.
  *
  * Numbers. Parameters are of 16 bits, and C cuts a larger argument down without a word: check before the call that a number is at
  * most 65535.
@@ -40,6 +41,13 @@ extern "C" {
 #define TTG_GRAPH_BYTES(stops, rides) (2 * (4 * (size_t)(rides) + (size_t)(stops)))
 #define TTG_WORK_BYTES(rides) (2 * (size_t)(rides))
 #define TTG_JOURNEY_BYTES(rides) (2 * (size_t)(rides))
+
+/* For imports and exports: change minutes for so many stops; room for the text of every timetable; the longest text that is accepted. */
+#define TTG_CHANGE_BYTES(stops) (2 * (size_t)(stops))
+#define TTG_TEXT_BYTES ((size_t)113838)
+#define TTG_LONGEST_TEXT ((size_t)144058)
+
+/* The stack that a call needs at most. */
 #define TTG_STACK_BYTES ((size_t)65536)
 
 /* No ride: in `work`, a ride that no journey ends with; in `graph`, no further departure. */
@@ -50,13 +58,18 @@ extern "C" {
 #define TTG_VALUE(answer) ((uint64_t)(answer) / 65536)
 #define TTG_PLACE(answer) ((unsigned)TTG_VALUE(answer))
 
-/* The values of accepted calls: of a check or a build; of a posting or a withdrawal; of an enquiry; of a margin. */
+/* The place of refusal 31. Rows, and the bytes of an export, can be more than 65535. */
+#define TTG_ROW(answer) ((size_t)TTG_VALUE(answer))
+
+/* The values of accepted calls: of a check or a build; of a posting or a withdrawal; of an enquiry; of a margin; of an import or an
+ * export. */
 #define TTG_STOPS(answer) ((unsigned)(TTG_VALUE(answer) % 65536))
 #define TTG_RIDES(answer) ((unsigned)(TTG_VALUE(answer) / 65536))
 #define TTG_NOTICE(answer) ((unsigned)TTG_VALUE(answer))
 #define TTG_ARRIVAL(answer) ((unsigned)(TTG_VALUE(answer) % 65536))
 #define TTG_COUNT(answer) ((unsigned)(TTG_VALUE(answer) / 65536))
 #define TTG_MINUTES(answer) ((int)((int64_t)(answer) / 65536))
+#define TTG_BYTES(answer) ((size_t)TTG_VALUE(answer))
 
 /* The number at place `index` of an area. */
 #define TTG_AT(area, index) ((unsigned)((area)[2 * (size_t)(index)] + 256 * (area)[2 * (size_t)(index) + 1]))
@@ -91,7 +104,9 @@ enum ttg_number {
     TTG_REFUSED_STANDS_NOT = 27,      /* no notice of this number stands */
     TTG_REFUSED_SHORT_WORK = 28,      /* `work` is too short */
     TTG_REFUSED_SHORT_JOURNEY = 29,   /* `journey` is too short */
-    TTG_REFUSED_NO_JOURNEY = 30       /* there is no journey */
+    TTG_REFUSED_NO_JOURNEY = 30,      /* there is no journey */
+    TTG_REFUSED_ROW = 31,             /* a row of `text`; place, by TTG_ROW: the row, from 1, or 0 for the header */
+    TTG_REFUSED_SHORT_OUTPUT = 32     /* what is to be written does not fit its slice */
 };
 
 /* Checks a timetable file. Accepted: TTG_STOPS, TTG_RIDES. */
@@ -119,6 +134,17 @@ uint64_t ttg_enquire(const uint8_t *file, size_t file_len, const uint8_t *notice
  * answer is negative only where the margin is. */
 int64_t ttg_margin(const uint8_t *file, size_t file_len, const uint8_t *notices, size_t notices_len, const uint8_t *graph,
                    size_t graph_len, uint16_t ride, uint16_t next);
+
+/* Makes the timetable file of a stop_times.txt. `text` has the columns trip_id, arrival_time, departure_time, stop_id, stop_sequence in this
+ * order, without quotes, and each of its lines ends with a newline; docs/PANEL.md says how they are to be written. `change` has the change
+ * minutes of each stop, and so its length says how many stops there are; a stop_id is a place in it. Accepted: TTG_BYTES, how many bytes
+ * of `file` it wrote, which is TTG_FILE_BYTES of the counts. Refused with 31 at the first row that is not so, else at the first row alone
+ * in its trip; with 4, 5, 7, 8, 10 or 11 if the file would not be accepted; with 32 if it does not fit. */
+uint64_t ttg_import(const uint8_t *text, size_t text_len, const uint8_t *change, size_t change_len, uint8_t *file, size_t file_len);
+
+/* Writes the stop_times.txt of a timetable file. Accepted: TTG_BYTES, how many bytes of `text` it wrote, at most TTG_TEXT_BYTES. With the
+ * file's change minutes the import of that text gives the same file again. Refused as a check is, then with 32 if the text does not fit. */
+uint64_t ttg_export(const uint8_t *file, size_t file_len, uint8_t *text, size_t text_len);
 
 #ifdef __cplusplus
 }

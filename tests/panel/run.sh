@@ -63,6 +63,11 @@ block() {
         { inside = 0; blank = "" }' "$top/$1"
 }
 
+# docs/PANEL.md's example on a text of these rows.
+feed() {
+    printf '%s\n' trip_id,arrival_time,departure_time,stop_id,stop_sequence "$@" | "$tmp/feed"
+}
+
 # Runs a block of commands as written, from the top, and keeps what it prints.
 follow() {
     block docs/PANEL.md "$1" 1 >"$tmp/commands"
@@ -70,21 +75,30 @@ follow() {
     (cd "$top" && sh -e "$tmp/commands") 2>&1 || echo "the commands under $1 ended with status $?"
 }
 
-# README.md's example as a program that reads a file first.
-{
-    printf '%s\n' '#include <stdio.h>'
-    block README.md 'From C' 1 | sed '/^uint64_t/,$d'
-    printf '%s\n' 'static uint8_t file[TTG_FILE_BYTES(500, 2000) + 1];' 'int main(void)' '{'
-    printf '%s\n' 'size_t len = fread(file, 1, sizeof file, stdin);'
-    block README.md 'From C' 1 | sed -n '/^uint64_t/,$p'
+# program PAGE HEADING READING DECLARATIONS..: the first block under a heading of a page as a program. What comes before the block's
+# first call stands outside of main, with the declarations; the line READING, which reads the input, comes before that call.
+program() {
+    page=$1
+    heading=$2
+    reading=$3
+    shift 3
+    printf '%s\n' '#include <stdio.h>' '#include "ttg.h"'
+    block "$page" "$heading" 1 | sed '/^uint64_t/,$d'
+    printf '%s\n' "$@" 'int main(void)' '{' "$reading"
+    block "$page" "$heading" 1 | sed -n '/^uint64_t/,$p'
     printf '%s\n' '}'
-} >"$tmp/readme.c"
+}
+
+program README.md 'From C' 'size_t len = fread(file, 1, sizeof file, stdin);' \
+    'static uint8_t file[TTG_FILE_BYTES(500, 2000) + 1];' >"$tmp/readme.c"
+program docs/PANEL.md 'Timetables from GTFS' 'size_t stops = 3, text_len = fread(text, 1, sizeof text, stdin);' >"$tmp/feed.c"
 
 compile panel "$here/panel.c" -std=c11 $sanitize
 compile vectors "$here/vectors.c" -std=c11 $sanitize
 compile stack "$here/stack.c" -std=c11
 compile example "$top/example/panel.c" -std=c99 -pedantic $sanitize
 compile readme "$tmp/readme.c" -std=c99 -pedantic $sanitize
+compile feed "$tmp/feed.c" -std=c99 -pedantic $sanitize
 
 # The header and the example as C++ too, only where there is a compiler for it.
 if command -v g++ >/dev/null; then
@@ -118,6 +132,13 @@ panel:  is no number of 0 to 65535 (2)
 arrives 620 by 0
 arrives 642
 refused with 1 at 0
+trip_id,arrival_time,departure_time,stop_id,stop_sequence
+0,09:58:00,09:58:00,0,0
+0,10:20:00,10:25:00,1,1
+0,10:40:00,10:40:00,2,2
+row 3
+row 0
+refused with 8 at 1
 STORED
 {
     example day.ttg 0 2 595
@@ -136,6 +157,10 @@ STORED
     (cd "$top/example" && "$tmp/plus" day.ttg 0 1 595)
     "$tmp/readme" <"$top/example/day.ttg"
     "$tmp/readme" </dev/null
+    feed 00,99:59:00,9:58:00,00000,7 0,10:20:00,10:25:00,1,8 0,10:40:00,0:00:00,2,65535
+    feed 0,9:58:00,9:58:00,0,0 0,10:20:00,10:25:00,1,1 0,10:40:00,10:40:01,2,2
+    "$tmp/feed" </dev/null
+    feed 0,9:58:00,9:58:00,0,0 0,10:20:00,10:25:00,1,1 0,10:40:00,10:40:00,3,2
 } >"$tmp/printed" 2>&1
 compare "$tmp/stored" "$tmp/printed" >"$tmp/example.log"
 

@@ -15,7 +15,8 @@
 #define NOTICES 200
 
 static uint8_t file[TTG_FILE_BYTES(STOPS, RIDES)], notices[TTG_NOTICES_BYTES], graph[TTG_GRAPH_BYTES(STOPS, RIDES)];
-static uint8_t work[TTG_WORK_BYTES(RIDES)], journey[TTG_JOURNEY_BYTES(RIDES)];
+static uint8_t work[TTG_WORK_BYTES(RIDES)], journey[TTG_JOURNEY_BYTES(RIDES)], text[TTG_TEXT_BYTES], made[sizeof file];
+static size_t text_len;
 static uint64_t answer; /* of the last call */
 
 #define BOTH file, sizeof file, notices, sizeof notices, graph, sizeof graph
@@ -50,6 +51,13 @@ static void *withdraw(void *unused) { answer = ttg_withdraw(BOTH, NOTICES); retu
 static void *enquire(void *unused) { answer = ttg_enquire(BOTH, work, sizeof work, journey, sizeof journey, 0, 5, 0); return unused; }
 static void *margin(void *unused) { answer = (uint64_t)ttg_margin(BOTH, 0, 1); return unused; }
 
+static void *export(void *unused) { answer = ttg_export(file, sizeof file, text, sizeof text); return unused; }
+static void *import(void *unused)
+{
+    answer = ttg_import(text, text_len, file + 9, TTG_CHANGE_BYTES(STOPS), made, sizeof made);
+    return unused;
+}
+
 static size_t used(void *(*call)(void *))
 {
     uint8_t *stack = aligned_alloc(4096, ROOM);
@@ -70,6 +78,7 @@ int main(void)
 {
     static const struct { const char *name; void *(*call)(void *); } calls[] = {
         { "check", check }, { "build", build }, { "post", post }, { "withdraw", withdraw }, { "enquire", enquire }, { "margin", margin },
+        { "export", export }, { "import", import },
     };
     unsigned passed = 0, failed = 0;
     make_file();
@@ -79,6 +88,8 @@ int main(void)
         int ok = TTG_NUMBER(answer) == TTG_ACCEPTED && bytes <= TTG_STACK_BYTES;
         printf("%-9s%7zu%s\n", calls[i].name, bytes, ok ? "" : " WRONG");
         ok ? passed++ : failed++;
+        if (calls[i].call == export)
+            text_len = TTG_BYTES(answer);
         for (uint16_t n = 1; calls[i].call == build && n < NOTICES; n++)
             if (TTG_NUMBER(ttg_post(BOTH, n, n, 1440)) != TTG_ACCEPTED) abort();
     }

@@ -3,10 +3,10 @@ use mathlib.Core.Path.{_≡_, refl}
 use mathlib.Core.List.{[], _∷_, map}
 use lib.ListN.{replicate}
 use Rattle.decimals.specs.Decimal.{allDigits, valueAfter, decimal}
+use Rattle.cuts.specs.Cut.{pieces}
 use Rattle.model.specs.Drawn.{same}
 use Rattle.meanings.specs.Meanings.{asked}
 use Rattle.meanings.specs.declared.Command.the-variants.{Post, Withdraw, Enquire, Margin, Unreadable}
-use Rattle.commands.specs.Words.{onFirst, words}
 use Rattle.commands.specs.Commands.{meant, commandOf}
 
 -- "p 7 1 10", "w 65535", "w 00007", "q 0 2 595", "m 0 4"
@@ -18,7 +18,7 @@ pub lines-read : map commandOf
     (109 ∷ 32 ∷ 48 ∷ 32 ∷ 52 ∷ 10 ∷ []) ∷
     [])
     ≡ Post 7 1 10 ∷ Withdraw 65535 ∷ Withdraw 7 ∷ Enquire 0 2 595 ∷ Margin 0 4 ∷ []
-unfolding commandOf meant asked same words onFirst decimal allDigits valueAfter
+unfolding commandOf meant asked same pieces decimal allDigits valueAfter
 lines-read = refl
 
 -- "w 65536", "w 000007", an empty line, "w 7" without its newline, "w 7" and a carriage return, two spaces, a leading
@@ -38,5 +38,5 @@ pub lines-unread : map commandOf
     (119 ∷ 32 ∷ 0 ∷ 10 ∷ []) ∷
     [])
     ≡ replicate 12 Unreadable
-unfolding commandOf meant asked same words onFirst decimal allDigits valueAfter
+unfolding commandOf meant asked same pieces decimal allDigits valueAfter
 lines-unread = refl

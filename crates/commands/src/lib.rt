@@ -1,31 +1,14 @@
 // A command line read: bytes in, a command out.
 ghost use mathlib.Core.Path.{_≡_};
 ghost use mathlib.Core.List.{map};
-ghost use Prim.Native.Nat.{_+_, _≤_};
-ghost use lib.ListN.{length, drop};
 ghost use Rattle.decimals.specs.Decimal.{decimal};
-ghost use Rattle.commands.specs.Words.{words, spacedWords, firstWord};
+ghost use Rattle.commands.specs.Words.{words, spacedWords};
 ghost use Rattle.commands.specs.Commands.{gathered, meant, commandOf};
 use meanings::Command;
 use meanings::Numbers;
 
 // How long a line may be, with its newline: `maxLine`.
 pub const MAX_LINE: usize = 64;
-
-// Where the word ends that starts at a place of a text.
-fn word_end(text: &[u8], start: usize) -> usize
-    requires { ⌜ start ≤ length (now text) ⌝ }
-    ensures { λ r. ⌜ r ≡ start + length (firstWord (drop start (now (text .entry)))) ⌝ }
-{
-    let mut i = start;
-    while i < text.len() {
-        if text[i] == b' ' {
-            return i;
-        }
-        i += 1;
-    }
-    i
-}
 
 // The numbers of a text that is words, each after a space.
 fn read_numbers(text: &[u8]) -> Numbers
@@ -35,7 +18,7 @@ fn read_numbers(text: &[u8]) -> Numbers
     let mut at = 0;
     while at < text.len() {
         let start = at + 1;
-        at = word_end(text, start);
+        at = cuts::end_of(text, start, b' ');
         numbers = meanings::with_number(numbers, decimals::read_number(&text[start..at]));
     }
     numbers
@@ -45,7 +28,7 @@ fn read_numbers(text: &[u8]) -> Numbers
 fn read_words(text: &[u8]) -> Command
     ensures { λ r. ⌜ r ≡ meant (words (now (text .entry))) ⌝ }
 {
-    let end = word_end(text, 0);
+    let end = cuts::end_of(text, 0, b' ');
     let numbers = read_numbers(&text[end..]);
     meanings::asked(&text[0..end], numbers)
 }

@@ -17,10 +17,10 @@ use Rattle.model.specs.Parts.{partVerdict}
 use Rattle.model.specs.Operations.{built, changed, enquired, margined}
 use Rattle.model.specs.Example.{exampleJ, inBytes}
 use Rattle.decimals.specs.Decimal.{allDigits, valueAfter, decimal, lastDigits, decimalOf}
+use Rattle.cuts.specs.Cut.{pieces}
 use Rattle.meanings.specs.Meanings.{asked}
-use Rattle.commands.specs.Words.{onFirst, words}
 use Rattle.commands.specs.Commands.{meant, commandOf}
-use Rattle.input.specs.Lines.{linesOf}
+use Rattle.input.specs.Lines.{inputLines}
 use Rattle.arrivals.specs.Arrivals.{journeyText, arrivesLine}
 use Rattle.lines.specs.Lines.{countsLine, postedLine, refusalLine, marginLine, textOf}
 use Rattle.turns.specs.Turns.{turnOf}
@@ -50,7 +50,7 @@ pub example-printed : printed exampleJ typed ≡
     110 ∷ 111 ∷ 32 ∷ 51 ∷ 48 ∷ 32 ∷ 97 ∷ 116 ∷ 32 ∷ 48 ∷ 10 ∷
     109 ∷ 97 ∷ 114 ∷ 103 ∷ 105 ∷ 110 ∷ 32 ∷ 45 ∷ 49 ∷ 10 ∷
     []
-unfolding typed printed talk turnOf linesOf onFirst words commandOf meant asked decimal allDigits valueAfter
+unfolding typed printed talk turnOf inputLines pieces commandOf meant asked decimal allDigits valueAfter
     textOf countsLine arrivesLine postedLine refusalLine marginLine journeyText decimalOf lastDigits
     exampleJ inBytes built changed enquired margined partVerdict same
     fileVerdict headerVerdict stopVerdict wrongStops wrongTrip wrongTimes wrongJoin connectionVerdict firstBelow

@@ -1,4 +1,4 @@
--- Laws of numbers in decimal: how many digits, which ones, and that a number written is read again. Assumes nothing.
+-- Laws of numbers in decimal: how many digits, which ones, no leading zero, and that a number written is read again. Assumes nothing.
 use mathlib.Core.Path.{_≡_, refl, ap}
 use mathlib.Core.Logic.{_⊎_, ⊎-elim}
 use mathlib.Core.Bool.{true}
@@ -7,7 +7,7 @@ use Prim.Native.Nat.{ℕ, zero, suc, _+_, _*_, _-_, _/_, _%_, _^_, _<_, _≤_}
 use native.Mathlib.Nat.{pow-suc}
 use native.Mathlib.Omega.{arith}
 use borrow.Author.Tests.{lt-ltb, le-ltb, le-leb}
-use lib.ListN.{length, length-append}
+use lib.ListN.{length, getD, length-append, List·getD-append}
 use Rattle.decimals.specs.Bytes.{digitZero, digitNine}
 use Rattle.decimals.specs.Decimal.{maxDigits, maxNumber, isDigit, allDigits, valueAfter, valueOf, decimal, lastDigits, decimalOf}
 use Rattle.decimals.specs.declared.Number.the-variants.{Is}
@@ -69,7 +69,7 @@ digits-only n =
     n
     (omega arith)
 
-value-append : (v : ℕ) (s : List ℕ) (d : ℕ) → valueAfter v (s ++ (d ∷ [])) ≡ 10 * valueAfter v s + (d - digitZero)
+pub value-append : (v : ℕ) (s : List ℕ) (d : ℕ) → valueAfter v (s ++ (d ∷ [])) ≡ 10 * valueAfter v s + (d - digitZero)
 unfolding valueAfter
 value-append v [] d = refl
 value-append v (b ∷ s) d = value-append (10 * v + (b - digitZero)) s d
@@ -92,6 +92,20 @@ digits-some n =
     (λ l. rw (decimal-one n l) (omega arith))
     (λ (l : 10 ≤ n). rw (decimal-more n l, length-append) (omega arith))
     (by-lt n 10)
+
+-- a number but 0 has no leading zero
+pub no-leading-zero : (n : ℕ) → 0 < n → getD (decimalOf n) 0 0 ≡ digitZero → ⊥
+no-leading-zero n =
+    by-digits (λ (m : ℕ). 0 < m → getD (decimalOf m) 0 0 ≡ digitZero → ⊥)
+    (λ (m : ℕ) (l : m < 10) (p : 0 < m) (z : getD (decimalOf m) 0 0 ≡ digitZero).
+    let e : digitZero + m ≡ digitZero = rw (decimal-one m l) at z in
+    omega arith)
+    (λ (m : ℕ) (l : 10 ≤ m) (first : 0 < m / 10 → getD (decimalOf (m / 10)) 0 0 ≡ digitZero → ⊥) (p : 0 < m)
+    (z : getD (decimalOf m) 0 0 ≡ digitZero).
+    first (omega arith) (rw (decimal-more m l, List·getD-append (decimalOf (m / 10)) _ 0 0 (digits-some (m / 10))) at z))
+    (suc n)
+    n
+    (omega arith)
 
 -- a number below a power of ten has no more digits than the power
 pub digits-few : (k n : ℕ) → n < 10 ^ suc k → length (decimalOf n) ≤ suc k

@@ -8,7 +8,7 @@ use lib.Seq.{take-at}
 use Rattle.model.specs.Day.{Day}
 use Rattle.commands.specs.Commands.{commandOf}
 use Rattle.meanings.specs.declared.Command.{Command}
-use Rattle.input.specs.Lines.{linesOf, plain, commandsOf, heldRoom}
+use Rattle.input.specs.Lines.{inputLines, plain, commandsOf, heldRoom}
 use Rattle.input.proofs.Holding.{held-same, last-line}
 use Rattle.lines.specs.Lines.{textOf}
 use Rattle.turns.specs.Turns.{State, turnOf}
@@ -38,7 +38,7 @@ module _ {day : Day} {s₀ s : State} {block : List ℕ} {p : Progress} {out out
       ap (λ (l : List ℕ). commandsOf (l ++ more)) (sym (take-append-drop (p .at) block))
       ∙ ap commandsOf (append-assoc front rest more)
       ∙ ap (map commandOf) (h .done .whole .splits (rest ++ more))
-      ∙ map-append commandOf (linesOf front) (linesOf (rest ++ more))
+      ∙ map-append commandOf (inputLines front) (inputLines (rest ++ more))
 
   round-says : (more : List ℕ)
       → talk day s₀ (commandsOf (block ++ more)) ≡ after (take (p .size) out) (talk day s (commandsOf (drop (p .at) block ++ more)))
@@ -64,7 +64,7 @@ pub data Writes (day : Day) : State → List ℕ → List ℕ → List ℕ → T
 -- however the input is cut into pieces, that is the dialogue of its commands
 pub writes-said : {day : Day} {s : State} {block more text : List ℕ} → Writes day s block more text
     → text ≡ talk day s (commandsOf (block ++ more)) .text
-unfolding talk linesOf
+unfolding talk inputLines
 writes-said {more = more} (works {p = p} {out = out} further h w e) =
     e ∙ ap (λ (t : List ℕ). take (p .size) out ++ t) (writes-said w) ∙ sym (ap (λ (t : Talk). t .text) (round-says h more))
 writes-said {day = day} {s = s} {block = block} (reads bytes later h w e) =

@@ -8,7 +8,7 @@ use lib.Seq.{take-all, take-at, drop-append-add, drop-drop}
 use Rattle.model.specs.Day.{Day}
 use Rattle.commands.specs.Commands.{commandOf}
 use Rattle.meanings.specs.declared.Command.{Command}
-use Rattle.input.specs.Lines.{linesOf, wholeLine, commandsOf}
+use Rattle.input.specs.Lines.{inputLines, wholeLine, commandsOf}
 use Rattle.input.proofs.Whole.{whole-none, stop-within, lines-turn, whole-turn}
 use Rattle.lines.specs.Lines.{textOf}
 use Rattle.labels.specs.Room.{LineIs}
@@ -83,7 +83,7 @@ added-text text line out₀ {size} {size′} {out} {out′} e f g h within =
 
 -- before the first line
 pub talked-none : (day : Day) (s : State) (block out : List ℕ) → Talked day s s block 0 0 out out
-unfolding talk linesOf
+unfolding talk inputLines
 talked-none day s block out = record {
   within = omega arith;
   whole = whole-none;
@@ -97,7 +97,7 @@ module _ {day : Day} {s₀ s : State} {block : List ℕ} {at size : ℕ} {out ou
   commands-turn : commandsOf (take end block) ≡ commandsOf (take at block) ++ (commandOf (take (end - at) (drop at block)) ∷ [])
   commands-turn =
       ap (map commandOf) (lines-turn block at end found more (before .whole))
-      ∙ map-append commandOf (linesOf (take at block)) (take (end - at) (drop at block) ∷ [])
+      ∙ map-append commandOf (inputLines (take at block)) (take (end - at) (drop at block) ∷ [])
 
   pub talked-turn : {size′ : ℕ} {out′ : List ℕ} {s′ : State}
       → Added size′ size out′ out s′ (turnOf day s (commandOf (take (end - at) (drop at block))))

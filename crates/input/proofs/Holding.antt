@@ -1,22 +1,22 @@
 -- A line that has not ended: what is held of it, and that it says the same. Assumes nothing.
 use mathlib.Core.Path.{_≡_, refl, sym, ap, _∙_}
 use mathlib.Core.Logic.{⊎-elim}
-use mathlib.Core.Bool.{true, not, and-false}
-use mathlib.Core.List.{List, [], _∷_, _++_, map, foldr, append-nil}
+use mathlib.Core.Bool.{true, false, and-false}
+use mathlib.Core.List.{List, [], _∷_, _++_, map, append-nil}
 use Prim.Native.Nat.{ℕ, zero, suc, _+_, _-_, _<_, _≤_, min}
 use native.Mathlib.Numerals.{add-one}
 use native.Mathlib.Omega.{arith}
-use borrow.Author.Tests.{lt-leb}
-use lib.Dec.{eqb}
+use borrow.Author.Tests.{lt-leb, not-true}
 use lib.ListN.{length, getD, set, take, drop, length-append, length-take, length-drop}
 use lib.Seq.{take-all, take-take, take-suc, drop-cons, set-at, append-snoc, getD-append-add, getD-drop}
 use Rattle.decimals.specs.Bytes.{newline}
-use Rattle.commands.specs.Words.{onFirst, first}
-use Rattle.commands.specs.Commands.{maxLine, commandOf}
+use Rattle.cuts.specs.Cut.{has, onFirst}
 use Rattle.meanings.specs.declared.Command.the-variants.{Unreadable}
-use Rattle.input.specs.Lines.{linesOf, plain, commandsOf, heldRoom, HeldBack}
-use Rattle.input.proofs.Lines.{plain-open, plain-lines}
-use Rattle.model.proofs.ByCases.{by-lt, and-left, and-right, and-both}
+use Rattle.commands.specs.Commands.{maxLine, commandOf}
+use Rattle.input.specs.Lines.{inputLines, plain, commandsOf, heldRoom, HeldBack}
+use Rattle.cuts.proofs.Cut.{has-none, has-take}
+use Rattle.input.proofs.Lines.{not-ended}
+use Rattle.model.proofs.ByCases.{by-lt}
 
 -- a line that is too long is no command
 pub long-unreadable : (line : List ℕ) → maxLine < length line → commandOf line ≡ Unreadable
@@ -26,63 +26,58 @@ long-unreadable line h = rw (lt-leb (length line) maxLine h)
 -- a line that has not ended is no command
 pub open-unreadable : (line : List ℕ) → plain line ≡ true → commandOf line ≡ Unreadable
 unfolding commandOf
-open-unreadable line h = rw (plain-open line h, and-false)
+open-unreadable line h = rw (not-ended line (not-true _ h), and-false)
 
-plain-take : (n : ℕ) (input : List ℕ) → plain input ≡ true → plain (take n input) ≡ true
-unfolding plain
-plain-take zero input h = refl
-plain-take (suc n) [] h = refl
-plain-take (suc n) (b ∷ bs) h =
-    let t = not (eqb b newline) in
-    and-both t (plain (take n bs)) (and-left t (plain bs) h) (plain-take n bs (and-right t (plain bs) h))
+-- the first of some lines, and the others
+abbrev first : List (List ℕ) → List ℕ
+first [] = []
+first (l ∷ ls) = l
 
--- the lines after the first
 abbrev others : List (List ℕ) → List (List ℕ)
 others [] = []
 others (l ∷ ls) = ls
 
--- bytes in front of the first line
-joined : (b : ℕ) (bs : List ℕ) (ls : List (List ℕ)) → foldr onFirst ls (b ∷ bs) ≡ ((b ∷ bs) ++ first ls) ∷ others ls
-unfolding onFirst
-joined b [] [] = refl
-joined b [] (l ∷ ls) = refl
-joined b (c ∷ bs) ls = ap (onFirst b) (joined c bs ls)
+first-other : (b : ℕ) (ls : List (List ℕ)) → onFirst b ls ≡ (b ∷ first ls) ∷ others ls
+first-other b [] = refl
+first-other b (l ∷ ls) = refl
 
-no-more : (b : ℕ) (bs : List ℕ) → foldr onFirst (linesOf []) (b ∷ bs) ≡ (b ∷ bs) ∷ []
-unfolding linesOf
-no-more b bs = rw (joined b bs [], append-nil)
+-- the lines of an input that starts with bytes without a newline
+joined : (b : ℕ) (bs more : List ℕ) → has newline (b ∷ bs) ≡ false
+    → inputLines ((b ∷ bs) ++ more) ≡ ((b ∷ bs) ++ first (inputLines more)) ∷ others (inputLines more)
+unfolding inputLines
+joined b [] more h = rw (has-none newline b [] h .0) (first-other b (inputLines more))
+joined b (c ∷ bs) more h = let n = has-none newline b (c ∷ bs) h in rw (n .0) (ap (onFirst b) (joined c bs more (n .1)))
 
 -- the commands of an input whose first line has a start of more bytes than a command
-long-start : (b : ℕ) (bs more : List ℕ) → plain (b ∷ bs) ≡ true → maxLine < length (b ∷ bs)
-    → commandsOf ((b ∷ bs) ++ more) ≡ Unreadable ∷ map commandOf (others (linesOf more))
+long-start : (b : ℕ) (bs more : List ℕ) → has newline (b ∷ bs) ≡ false → maxLine < length (b ∷ bs)
+    → commandsOf ((b ∷ bs) ++ more) ≡ Unreadable ∷ map commandOf (others (inputLines more))
 long-start b bs more h long =
-    rw (plain-lines (b ∷ bs) more h, joined b bs (linesOf more))
-    (ap (λ x. x ∷ map commandOf (others (linesOf more)))
-    (long-unreadable ((b ∷ bs) ++ first (linesOf more)) (simp length-append (omega arith))))
+    rw (joined b bs more h)
+    (ap (λ x. x ∷ map commandOf (others (inputLines more)))
+    (long-unreadable ((b ∷ bs) ++ first (inputLines more)) (simp length-append (omega arith))))
 
 -- a start of more bytes than a command gives the same commands as all of it
-start-same : (n : ℕ) → maxLine < n → (input more : List ℕ) → plain input ≡ true → n < length input
+start-same : (n : ℕ) → maxLine < n → (input more : List ℕ) → has newline input ≡ false → n < length input
     → commandsOf (take n input ++ more) ≡ commandsOf (input ++ more)
 start-same zero g input more h long = absurd (omega arith)
 start-same (suc n) g [] more h long = absurd (omega arith)
 start-same (suc n) g (b ∷ bs) more h long =
-    long-start b (take n bs) more (plain-take (suc n) (b ∷ bs) h) (simp length-take (omega arith))
+    long-start b (take n bs) more (has-take newline (suc n) (b ∷ bs) h) (simp length-take (omega arith))
     ∙ sym (long-start b bs more h (omega arith))
 
 -- what is held of a line that has not ended gives the same commands, whatever comes next
 pub held-same : (input more : List ℕ) → plain input ≡ true → commandsOf (take heldRoom input ++ more) ≡ commandsOf (input ++ more)
 held-same input more h =
     ⊎-elim
-    (λ (long : heldRoom < length input). start-same heldRoom (omega arith) input more h long)
+    (λ (long : heldRoom < length input). start-same heldRoom (omega arith) input more (not-true _ h) long)
     (λ (short : length input ≤ heldRoom). rw (take-all heldRoom input short))
     (by-lt heldRoom (length input))
 
 -- at the end of the input, what has not ended is a line by itself
 pub last-line : (line : List ℕ) → plain line ≡ true → 0 < length line → commandsOf line ≡ commandOf line ∷ []
+unfolding inputLines
 last-line [] h some = absurd (omega arith)
-last-line (b ∷ bs) h some =
-    ap commandsOf (sym (append-nil (b ∷ bs)))
-    ∙ ap (map commandOf) (plain-lines (b ∷ bs) [] h ∙ no-more b bs)
+last-line (b ∷ bs) h some = rw (append-nil bs) at (ap (map commandOf) (joined b bs [] (not-true _ h)))
 
 -- the first bytes of the first bytes
 take-least : (j k : ℕ) (l : List ℕ) → take (min j k) l ≡ take j (take k l)

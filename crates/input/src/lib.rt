@@ -2,46 +2,18 @@
 ghost use mathlib.Core.Path.{_≡_};
 ghost use Prim.Native.Nat.{_+_, _-_, _≤_, min};
 ghost use lib.ListN.{length, take, drop};
-ghost use Rattle.commands.specs.Commands.{ended};
-ghost use Rattle.input.specs.Lines.{firstLine, wholeLine, heldRoom, HeldBack};
+ghost use Rattle.input.specs.Lines.{wholeLine, heldRoom, HeldBack};
 
 // How many bytes are held of a line that has not ended: `heldRoom`.
 const HELD_ROOM: usize = commands::MAX_LINE + 1;
-
-// Where the line ends that starts at a place of a block: after its newline, or with the block.
-fn line_end(block: &[u8], at: usize) -> usize
-    requires { ⌜ at ≤ length (now block) ⌝ }
-    ensures { λ r. ⌜ r ≡ at + length (firstLine (drop at (now (block .entry)))) ⌝ }
-{
-    let mut i = at;
-    while i < block.len() {
-        if block[i] == b'\n' {
-            return i + 1;
-        }
-        i += 1;
-    }
-    i
-}
-
-// Whether a line ends with a newline.
-fn is_ended(line: &[u8]) -> bool
-    ensures { λ r. ⌜ r ≡ ended (now (line .entry)) ⌝ }
-{
-    let n = line.len();
-    if n < 1 {
-        return false;
-    }
-    let last = n - 1;
-    line[last] == b'\n'
-}
 
 // Where the line ends that starts at a place of a block, if a newline ends it; else the place itself.
 pub fn whole_end(block: &[u8], at: usize) -> usize
     requires { ⌜ at ≤ length (now block) ⌝ }
     ensures { λ r. ⌜ r ≡ at + length (wholeLine (drop at (now (block .entry)))) ⌝ }
 {
-    let end = line_end(block, at);
-    if is_ended(&block[at..end]) { end } else { at }
+    let end = cuts::end_of(block, at, b'\n');
+    if end < block.len() { end + 1 } else { at }
 }
 
 // How many of some bytes are held.

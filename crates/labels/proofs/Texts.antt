@@ -19,7 +19,7 @@ sets-turn d text at i h =
     rw (add-one i, take-suc text i 0 h, ← sets-append d at (take i text) (getD text i 0 ∷ []), e)
 
 -- a text from the front of an area on
-sets-front : (d s : List ℕ) → length s ≤ length d → sets d 0 s ≡ s ++ drop (length s) d
+pub sets-front : (d s : List ℕ) → length s ≤ length d → sets d 0 s ≡ s ++ drop (length s) d
 sets-front d s h = sets-eq s d 0 (omega arith) ∙ rw zero-add
 
 -- a line written from the front on

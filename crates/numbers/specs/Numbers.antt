@@ -18,6 +18,11 @@ numbersOf [] = []
 numbersOf (low ∷ []) = []
 numbersOf (low ∷ high ∷ bytes) = (low + byteSize * high) ∷ numbersOf bytes
 
+-- numbers as bytes
+unfoldable pub bytesOf : List ℕ → List ℕ
+bytesOf [] = []
+bytesOf (n ∷ ns) = n % byteSize ∷ n / byteSize ∷ bytesOf ns
+
 -- numbers written over the front of an area of numbers, as many as it has room for
 unfoldable pub over : List ℕ → List ℕ → List ℕ
 over [] area = area

@@ -4,6 +4,8 @@ ghost use Rattle.numbers.specs.Numbers.{numbersOf};
 ghost use Rattle.timetable.specs.Check.{checkedAnswer};
 ghost use Rattle.model.specs.Day.{dayOf};
 ghost use Rattle.model.specs.Operations.{built, posted, withdrawn, enquired, margined};
+ghost use Rattle.gtfs.specs.Conversions.{imported, exported};
+ghost use Rattle.coded_conversions.specs.Coded.{ConversionCoded};
 ghost use Rattle.codes.specs.Encoded.{coded, codedCounts, codedMargin};
 ghost use Rattle.fronts.specs.Fronts.{lentBytes};
 ghost use Rattle.coded_updates.specs.Updated.{codedBy, OutcomeBytes};
@@ -95,4 +97,21 @@ pub extern "C" fn ttg_margin(file: &[u8], notices: &[u8], graph: &[u8], ride: u1
         (margined (dayOf (now (file .entry))) (lentBytes (now (notices .entry)) (now (graph .entry))) ride next) ⌝ }
 {
     byte_margins::margin_bytes(file, notices, graph, ride, next)
+}
+
+// The timetable file of stop_times.txt and of each stop's transfer time.
+#[no_mangle]
+pub extern "C" fn ttg_import(text: &[u8], change: &[u8], file: &mut [u8]) -> u64
+    ensures { λ r.
+        ⌜ ConversionCoded (imported (now (text .entry)) (now (change .entry)) (now (file .entry))) r (now (file .exit)) ⌝ }
+{
+    coded_conversions::import_coded(text, change, file)
+}
+
+// stop_times.txt of a timetable file.
+#[no_mangle]
+pub extern "C" fn ttg_export(file: &[u8], text: &mut [u8]) -> u64
+    ensures { λ r. ⌜ ConversionCoded (exported (now (file .entry)) (now (text .entry))) r (now (text .exit)) ⌝ }
+{
+    coded_conversions::export_coded(file, text)
 }

@@ -3,6 +3,7 @@
 ghost use Prim.Native.Nat.{_≤_};
 ghost use lib.ListN.{length};
 ghost use Rattle.streams.specs.Room.{InBlock};
+use files::Loaded;
 use libc::STDIN_FILENO;
 use libc::STDOUT_FILENO;
 
@@ -13,36 +14,15 @@ pub struct Input {
     pub going: bool,
 }
 
-// What fd holds, into file as far as it has room; how many bytes, and 0 where it cannot be read.
-fn read_file(fd: i32, file: &mut [u8]) -> usize
-    ensures { λ r. ⌜ r ≤ length (now (file .exit)) ⌝ }
-{
-    let mut n = 0;
-    while n < file.len() {
-        let got = libc::read(fd, &mut file[n..]);
-        if got < 0 {
-            return 0;
-        }
-        let more = io::count(got, &file[n..]);
-        if more == 0 {
-            return n;
-        }
-        n += more;
-    }
-    n
-}
-
 // The file day.ttg into file as far as it has room; how many bytes, and 0 where it cannot be read.
 pub fn load(file: &mut [u8]) -> usize
     ensures { λ r. ⌜ r ≤ length (now (file .exit)) ⌝ }
 {
-    let fd = os::open_read(b"day.ttg");
-    if fd < 0 {
-        return 0;
+    let loaded = files::load(b"day.ttg", file);
+    match loaded {
+        Loaded::Bytes(n) => n,
+        Loaded::Failed => 0,
     }
-    let n = read_file(fd, file);
-    libc::close(fd);
-    n
 }
 
 // Writes the first bytes of out to standard output; whether all are written. If not, a line on standard error says why.

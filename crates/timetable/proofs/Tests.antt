@@ -1,9 +1,9 @@
 -- What the tests mean, and how to go by cases on an order. Assumes nothing.
 use mathlib.Core.Path.{_≡_, refl}
 use mathlib.Core.Logic.{_↔_, _⊎_, inl, inr, ⊎-elim}
-use mathlib.Core.Bool.{Bool, true, false, not, _&&_, _||_}
+use mathlib.Core.Bool.{Bool, true, false, not, _&&_, _||_, false≢true}
 use Prim.Native.Nat.{ℕ, _<_, _≤_}
-use native.Mathlib.Decide.{decLt}
+use native.Mathlib.Decide.{decLt, ℕ-discrete}
 use native.Mathlib.Omega.{arith}
 use borrow.Author.Tests.{ltb-false, le-ltb, leb-false, lt-leb, eqb-true, eqb-false, eq-eqb, ne-eqb, not-false}
 use lib.Dec.{ltb, leb, eqb}
@@ -15,6 +15,17 @@ lt-split (no h) = inr (omega arith)
 
 pub by-lt : (m n : ℕ) → (m < n) ⊎ (n ≤ m)
 by-lt m n = lt-split (decLt m n)
+
+eq-split : {m n : ℕ} → Dec (m ≡ n) → (m ≡ n) ⊎ (m ≡ n → ⊥)
+eq-split (yes h) = inl h
+eq-split (no h) = inr h
+
+pub by-eq : (m n : ℕ) → (m ≡ n) ⊎ (m ≡ n → ⊥)
+by-eq m n = eq-split (ℕ-discrete m n)
+
+pub by-bool : (p : Bool) → (p ≡ true) ⊎ (p ≡ false)
+by-bool true = inl refl
+by-bool false = inr refl
 
 -- a test is not both
 pub not-both : {b : Bool} → b ≡ true → b ≡ false → ⊥
@@ -32,6 +43,19 @@ and-right false b h = cc
 pub and-both : (a b : Bool) → a ≡ true → b ≡ true → a && b ≡ true
 and-both true b h k = k
 and-both false b h k = h
+
+-- one of two tests
+pub or-cases : (p q : Bool) → p || q ≡ true → (p ≡ true) ⊎ (q ≡ true)
+or-cases true q h = inl refl
+or-cases false q h = inr h
+
+pub or-left : (p q : Bool) → p ≡ true → p || q ≡ true
+or-left true q h = refl
+or-left false q h = absurd (false≢true h)
+
+pub or-right : (p q : Bool) → q ≡ true → p || q ≡ true
+or-right true q h = refl
+or-right false q h = h
 
 -- a test that finds fault where P does not hold
 abbrev pub Faults : Bool → Type 0 → Type 0

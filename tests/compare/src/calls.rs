@@ -1,6 +1,6 @@
 //! What a call is: its operation, what it is lent, and which refusals it can get. A new operation,
-//! input, area or refusal starts here: `Call`, `AREAS` and `OPERATIONS` are what the compiler and a
-//! run of `compare` go by (see README.md).
+//! input, area or refusal starts here: `Call`, `Conversion`, `AREAS` and `OPERATIONS` are what the
+//! compiler and a run of `compare` go by (see README.md).
 
 pub const NOTICES: usize = 0;
 pub const GRAPH: usize = 1;
@@ -36,7 +36,7 @@ pub const AREAS: [Area; 4] = [
 /// The bytes of each area.
 pub type Lent<'a> = [&'a mut [u8]; AREAS.len()];
 
-/// An operation with its own numbers.
+/// An operation on a timetable file and the areas, with its own numbers.
 #[derive(Clone, Copy, Debug)]
 pub enum Call {
     Check,
@@ -50,12 +50,21 @@ pub enum Call {
     Margin(u16, u16),
 }
 
+/// An operation between stop_times.txt and a timetable file.
+#[derive(Clone, Copy, Debug)]
+pub enum Conversion {
+    Import,
+    Export,
+}
+
 pub const CHECK: usize = 0;
 pub const BUILD: usize = 1;
 pub const POST: usize = 2;
 pub const WITHDRAW: usize = 3;
 pub const ENQUIRE: usize = 4;
 pub const MARGIN: usize = 5;
+pub const IMPORT: usize = 6;
+pub const EXPORT: usize = 7;
 
 pub struct Operation {
     pub name: &'static str,
@@ -67,7 +76,7 @@ const FILE: &[usize] = &[1, 2, 3, 4, 5, 6, 7, 8, 9, 10, 11];
 const ROOM: &[usize] = &[21, 22];
 const CONTENTS: &[usize] = &[23, 24];
 
-pub const OPERATIONS: [Operation; 6] = [
+pub const OPERATIONS: [Operation; 8] = [
     Operation {
         name: "check",
         refusals: &[FILE],
@@ -92,10 +101,18 @@ pub const OPERATIONS: [Operation; 6] = [
         name: "margin",
         refusals: &[FILE, ROOM, CONTENTS, &[13, 17]],
     },
+    Operation {
+        name: "import",
+        refusals: &[&[31, 4, 5, 7, 8, 10, 11, 32]],
+    },
+    Operation {
+        name: "export",
+        refusals: &[FILE, &[32]],
+    },
 ];
 
 /// The highest number of a refusal.
-pub const MOST_REFUSAL: usize = 30;
+pub const MOST_REFUSAL: usize = 32;
 
 impl Call {
     /// Its place in OPERATIONS.
@@ -111,9 +128,23 @@ impl Call {
     }
 }
 
-/// An implementation: makes a call on a timetable file and the areas, and answers number +
-/// 65536 * value, number 0 for accepted.
+impl Conversion {
+    /// Its place in OPERATIONS.
+    pub fn operation(self) -> usize {
+        match self {
+            Conversion::Import => IMPORT,
+            Conversion::Export => EXPORT,
+        }
+    }
+}
+
+/// An implementation. Each function answers number + 65536 * value, number 0 for accepted.
 pub struct Side {
     pub name: &'static str,
+    /// A call on a timetable file and the areas.
     pub call: fn(&[u8], Lent, Call) -> i64,
+    /// Text and change minutes, and the room for the file.
+    pub import: fn(&[u8], &[u8], &mut [u8]) -> i64,
+    /// The file, and the room for the text.
+    pub export: fn(&[u8], &mut [u8]) -> i64,
 }

@@ -106,10 +106,9 @@ fn add(x: Target, k: usize, step: u16) {
     }
 }
 
-/// The file with one or more faults.
-pub fn damage_file(x: &mut State, rng: &mut Rng) {
-    let mut f = x.file.area().to_vec();
-    let (s, c) = (x.s, x.c);
+/// A right file of so many stops and connections, with one or more faults.
+pub fn damaged(rng: &mut Rng, file: &[u8], s: usize, c: usize) -> Vec<u8> {
+    let mut f = file.to_vec();
     for _ in 0..rng.pick(&[1, 1, 1, 1, 2, 3]) {
         if f.len() < 9 + 2 * s + 10 * c {
             break;
@@ -119,7 +118,7 @@ pub fn damage_file(x: &mut State, rng: &mut Rng) {
         let f = &mut f;
         fault(Target { f, s, c, at }, rng);
     }
-    x.file = Room::new(rng, &f);
+    f
 }
 
 type AreaFault = fn(&mut State, &mut Rng);

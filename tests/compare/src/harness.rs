@@ -1,10 +1,11 @@
 //! Makes the same calls on several sides and compares what they answer and leave, byte for byte.
 
-use crate::calls::{Call, Side, BUILD, CHECK, ENQUIRE, GRAPH, MARGIN, MOST_REFUSAL, NOTICES};
-use crate::calls::{AREAS, OPERATIONS, POST, WITHDRAW};
-use crate::damage::{damage_area, damage_file, values};
-use crate::gen::{self, call_of, Rng};
-use crate::rooms::{change_length, State};
+use crate::calls::{Call, Conversion, Side, BUILD, CHECK, ENQUIRE, GRAPH, MARGIN, NOTICES};
+use crate::calls::{AREAS, MOST_REFUSAL, OPERATIONS, POST, WITHDRAW};
+use crate::damage::{damage_area, damaged, values};
+use crate::feed::{self, HEADER};
+use crate::gen::{self, call_of, Rng, Style};
+use crate::rooms::{change_length, get, Exchange, Memory, Room, State};
 
 /// Which timetables are drawn.
 #[derive(Clone, Copy)]
@@ -13,6 +14,16 @@ pub enum Sizes {
     Small(usize),
     /// Any counts, at most so many connections.
     Any(usize),
+}
+
+impl Sizes {
+    /// Stops and connections, and how the trips look.
+    fn draw(self, rng: &mut Rng) -> ((usize, usize), Style) {
+        match self {
+            Sizes::Small(most) => (gen::small_sizes(rng, most), gen::small_style(rng)),
+            Sizes::Any(most) => (gen::sizes(rng, most), gen::style(rng)),
+        }
+    }
 }
 
 /// Compares each side with the last one, which counts as right.
@@ -39,12 +50,13 @@ impl Tester {
         }
     }
 
-    /// Makes a call on each side from one state, which becomes what the last side leaves.
-    fn step(&mut self, state: &mut State, call: Call) {
+    /// Makes a call on each side from one state, which becomes what the last side leaves, and tells
+    /// that one's answer.
+    fn step<M: Memory>(&mut self, state: &mut M, call: M::Call) -> i64 {
         let (right, others) = self.sides.split_last().expect("a side");
         let mut after = state.clone();
         let answer = after.apply(right, call);
-        self.seen[call.operation()][(answer & 65535) as usize] += 1;
+        self.seen[M::operation(call)][(answer & 65535) as usize] += 1;
         for side in others {
             let mut x = state.clone();
             let y = x.apply(side, call);
@@ -59,10 +71,9 @@ impl Tester {
                     format!("; {name} differs at byte {at}")
                 });
                 self.notes.push(format!(
-                    "{} S={} C={} {:?}: {} {}, {} {}{}",
+                    "{} {} {:?}: {} {}, {} {}{}",
                     self.scene,
-                    state.s,
-                    state.c,
+                    state.sizes(),
                     call,
                     side.name,
                     shown(y),
@@ -73,15 +84,25 @@ impl Tester {
             }
         }
         *state = after;
+        answer
+    }
+
+    /// Counts, as a test, what must hold of an answer whatever the sides agree on.
+    fn hold(&mut self, holds: bool, what: &str) {
+        if holds {
+            self.passed += 1;
+            return;
+        }
+        self.failed += 1;
+        if self.notes.len() < 10 {
+            self.notes.push(format!("{}: {what}", self.scene));
+        }
     }
 
     /// One timetable: building, a run, and calls with damaged input between those of the run.
     pub fn round(&mut self, seed: u64, sizes: Sizes) {
         let rng = &mut Rng(seed);
-        let ((s, c), style) = match sizes {
-            Sizes::Small(most) => (gen::small_sizes(rng, most), gen::small_style(rng)),
-            Sizes::Any(most) => (gen::sizes(rng, most), gen::style(rng)),
-        };
+        let ((s, c), style) = sizes.draw(rng);
         let file = gen::timetable(rng, s, c, &style);
         let mut state = State::new(rng, &file, s, c);
         self.scene = format!("seed {seed} run");
@@ -121,7 +142,8 @@ impl Tester {
         let mut x = state.clone();
         let what = match rng.below(6) {
             0 | 1 => {
-                damage_file(&mut x, rng);
+                let file = damaged(rng, x.file.area(), x.s, x.c);
+                x.file = Room::new(rng, &file);
                 if rng.chance(20) {
                     damage_area(&mut x, rng);
                 }
@@ -173,6 +195,114 @@ impl Tester {
         self.scene = old;
     }
 
+    /// One timetable, at times with counts past the limits: its export, the import of that, and
+    /// imports of other texts of it, right and wrong.
+    pub fn conversions(&mut self, seed: u64, sizes: Sizes) {
+        // Other numbers than those of the seed's round.
+        let rng = &mut Rng(!seed);
+        let ((mut s, mut c), mut style) = sizes.draw(rng);
+        match rng.below(200) {
+            0..8 => (s, c) = rng.pick(&[(500, 0), (500, 2000), (501, 3), (3, 2001), (501, 2001)]),
+            // A count past 16 bits, but no trip number.
+            8 => ((s, c), style) = ((3, rng.range(65_534, 65_538)), gen::day()),
+            _ => {}
+        }
+        let refusal = if s > 500 {
+            4
+        } else if c > 2000 {
+            5
+        } else {
+            0
+        };
+        self.scene = format!("seed {seed} S={s} C={c}");
+        let file = gen::timetable(rng, s, c, &style);
+        if refusal == 0 {
+            self.there_and_back(rng, &file);
+        }
+        let text = feed::right_text(rng, &file);
+        let change = feed::change(rng, &file, false);
+        let (answer, made) = self.imported(rng, &text, &change, file.len());
+        let right = answer & 65535 == refusal && (refusal != 0 || made == file);
+        self.hold(right, "a right text does not give its file");
+        // Few where the text is long.
+        let (texts, files) = match c {
+            ..=2000 => (rng.range(10, 40), 6),
+            _ => (2, 0),
+        };
+        for _ in 0..texts {
+            let text = if rng.chance(10) {
+                feed::right_text(rng, &file)
+            } else {
+                feed::wrong_text(rng, &file)
+            };
+            let wrong = rng.chance(20);
+            let change = feed::change(rng, &file, wrong);
+            let near = [0, file.len() - 1, file.len(), file.len() + 1];
+            let len = if rng.chance(20) {
+                rng.pick(&near)
+            } else {
+                file.len() + 1100
+            };
+            let (answer, made) = self.imported(rng, &text, &change, len);
+            if answer & 65535 == 0 {
+                self.there_and_back(rng, &made);
+            }
+        }
+        for _ in 0..files {
+            let file = damaged(rng, &file, s, c);
+            let len = rng.pick(&[0, HEADER.len(), room_for_text(c)]);
+            self.exported(rng, &file, len);
+        }
+    }
+
+    /// The export of an accepted file, and the import of that, which gives the file again, each with a
+    /// room that is too short, fits, or is longer.
+    fn there_and_back(&mut self, rng: &mut Rng, file: &[u8]) {
+        let s = usize::from(get(file, 5));
+        let change = &file[9..9 + 2 * s];
+        let (answer, text) = self.exported(rng, file, room_for_text(file.len() / 10));
+        self.hold(answer & 65535 == 0, "an accepted file is not exported");
+        if answer & 65535 != 0 {
+            return;
+        }
+        for (more, refusal) in [(0, 32), (1, 0), (2, 0)] {
+            let (answer, again) = self.exported(rng, file, text.len() + more - 1);
+            let right = answer & 65535 == refusal && (refusal != 0 || again == text);
+            self.hold(right, "an export by the room it has");
+            let (answer, again) = self.imported(rng, &text, change, file.len() + more - 1);
+            let right = answer & 65535 == refusal && (refusal != 0 || again == file);
+            self.hold(right, "an export does not give its file again");
+        }
+    }
+
+    /// An import into a room of this length: the answer, and the bytes written.
+    fn imported(
+        &mut self,
+        rng: &mut Rng,
+        text: &[u8],
+        change: &[u8],
+        len: usize,
+    ) -> (i64, Vec<u8>) {
+        let mut x = Exchange {
+            text: Room::new(rng, text),
+            change: Room::new(rng, change),
+            file: Room::any(rng, len),
+        };
+        let answer = self.step(&mut x, Conversion::Import);
+        (answer, written(answer, &x.file))
+    }
+
+    /// An export into a room of this length: the answer, and the bytes written.
+    fn exported(&mut self, rng: &mut Rng, file: &[u8], len: usize) -> (i64, Vec<u8>) {
+        let mut x = Exchange {
+            text: Room::any(rng, len),
+            change: Room::any(rng, 0),
+            file: Room::new(rng, file),
+        };
+        let answer = self.step(&mut x, Conversion::Export);
+        (answer, written(answer, &x.text))
+    }
+
     /// Counts, as a test each, that every operation accepted and gave each of its refusals; what it
     /// never gave, or gave without having it, is a failure.
     pub fn count_answers(&mut self) {
@@ -199,6 +329,21 @@ impl Tester {
         };
         self.seen.iter().enumerate().map(line).collect()
     }
+}
+
+/// At least as many bytes as the text of so many connections has.
+fn room_for_text(c: usize) -> usize {
+    HEADER.len() + 64 * c
+}
+
+/// The bytes that an accepted conversion says it has written.
+fn written(answer: i64, room: &Room) -> Vec<u8> {
+    let bytes = match answer & 65535 {
+        0 => answer >> 16,
+        _ => 0,
+    };
+    let area = room.area();
+    area[..area.len().min(bytes as usize)].to_vec()
 }
 
 fn shown(answer: i64) -> String {

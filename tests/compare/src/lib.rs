@@ -1,8 +1,9 @@
-//! The library and two independent implementations of document 01, compared call by call. See
+//! The library and two independent implementations of documents 01 and 02, compared call by call. See
 //! README.md.
 
 pub mod calls;
 pub mod damage;
+pub mod feed;
 pub mod gen;
 pub mod harness;
 pub mod rooms;

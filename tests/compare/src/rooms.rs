@@ -1,8 +1,9 @@
-//! The memory that calls work on: the file and the areas, each at any address with bytes around it
-//! that nobody may change.
+//! The memory that calls work on: the file, the areas and the text, each at any address with bytes
+//! around it that nobody may change.
 
-use crate::calls::{Call, Side, AREAS};
+use crate::calls::{Call, Conversion, Side, AREAS};
 use crate::gen::Rng;
+use std::fmt::Debug;
 
 /// Bytes of an area, and bytes before and after it.
 #[derive(Clone, PartialEq)]
@@ -77,6 +78,22 @@ pub fn set(bytes: &mut [u8], at: usize, v: u16) {
     bytes[at..at + 2].copy_from_slice(&v.to_le_bytes());
 }
 
+/// What calls of a kind work on.
+pub trait Memory: Clone {
+    type Call: Copy + Debug;
+
+    fn apply(&mut self, side: &Side, call: Self::Call) -> i64;
+
+    /// The place of a call's operation in OPERATIONS.
+    fn operation(call: Self::Call) -> usize;
+
+    /// Name and first differing byte of the first room that differs.
+    fn difference(&self, other: &Self) -> Option<(&'static str, isize)>;
+
+    /// Its sizes.
+    fn sizes(&self) -> String;
+}
+
 /// The file and the areas, and the counts of the timetable that they were made for.
 #[derive(Clone, PartialEq)]
 pub struct State {
@@ -99,19 +116,77 @@ impl State {
             c,
         }
     }
+}
 
-    pub fn apply(&mut self, side: &Side, call: Call) -> i64 {
+impl Memory for State {
+    type Call = Call;
+
+    fn apply(&mut self, side: &Side, call: Call) -> i64 {
         let areas = self.areas.each_mut().map(Room::area_mut);
         (side.call)(self.file.area(), areas, call)
     }
 
-    /// Name and first differing byte of the first room that differs.
-    pub fn difference(&self, other: &State) -> Option<(&'static str, isize)> {
+    fn operation(call: Call) -> usize {
+        call.operation()
+    }
+
+    fn difference(&self, other: &State) -> Option<(&'static str, isize)> {
         if let Some(at) = self.file.difference(&other.file) {
             return Some(("file", at));
         }
         let mut rooms = AREAS.iter().zip(self.areas.iter().zip(&other.areas));
         rooms.find_map(|(area, (a, b))| a.difference(b).map(|at| (area.name, at)))
+    }
+
+    fn sizes(&self) -> String {
+        format!("S={} C={}", self.s, self.c)
+    }
+}
+
+/// What conversions work on. An import reads text and change minutes and writes the file, an export
+/// reads the file and writes the text.
+#[derive(Clone, PartialEq)]
+pub struct Exchange {
+    pub text: Room,
+    pub change: Room,
+    pub file: Room,
+}
+
+impl Exchange {
+    fn rooms(&self) -> [(&'static str, &Room); 3] {
+        [
+            ("text", &self.text),
+            ("change", &self.change),
+            ("file", &self.file),
+        ]
+    }
+}
+
+impl Memory for Exchange {
+    type Call = Conversion;
+
+    fn apply(&mut self, side: &Side, conversion: Conversion) -> i64 {
+        let (text, file) = (&mut self.text, &mut self.file);
+        match conversion {
+            Conversion::Import => (side.import)(text.area(), self.change.area(), file.area_mut()),
+            Conversion::Export => (side.export)(file.area(), text.area_mut()),
+        }
+    }
+
+    fn operation(conversion: Conversion) -> usize {
+        conversion.operation()
+    }
+
+    fn difference(&self, other: &Exchange) -> Option<(&'static str, isize)> {
+        let mut rooms = self.rooms().into_iter().zip(other.rooms());
+        rooms.find_map(|((name, a), (_, b))| a.difference(b).map(|at| (name, at)))
+    }
+
+    fn sizes(&self) -> String {
+        let lengths = self
+            .rooms()
+            .map(|(name, room)| format!("{name} {}", room.len()));
+        lengths.join(" ")
     }
 }
 

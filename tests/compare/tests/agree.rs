@@ -10,6 +10,7 @@ fn agree(sides: &[&'static Side], seeds: std::ops::Range<u64>, sizes: Sizes) -> 
     let mut t = Tester::new(sides);
     for seed in seeds {
         t.round(seed, sizes);
+        t.conversions(seed, sizes);
     }
     assert_eq!(t.failed, 0, "{:#?}", t.notes);
     t

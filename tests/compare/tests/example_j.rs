@@ -1,27 +1,9 @@
 //! Example J: the seven commands, the instances, and the limits, on every side.
 
+mod common;
+
+use common::{each, file, CHANGE, RIDES};
 use compare::calls::{Call, Side};
-#[cfg(feature = "panel")]
-use compare::sides::LIBRARY;
-use compare::sides::{BY_LAST, FAST, SENTENCES};
-
-const CHANGE: [u16; 3] = [4, 5, 3];
-const RIDES: [[u16; 5]; 5] = [
-    [0, 0, 1, 600, 620],
-    [0, 1, 2, 625, 640],
-    [1, 1, 2, 622, 650],
-    [1, 2, 0, 655, 690],
-    [2, 1, 2, 630, 642],
-];
-
-fn file(change: &[u16], rides: &[[u16; 5]]) -> Vec<u8> {
-    let mut out = b"TTG".to_vec();
-    let head = [1, change.len() as u16, rides.len() as u16];
-    for n in head.iter().chain(change).chain(rides.iter().flatten()) {
-        out.extend(n.to_le_bytes());
-    }
-    out
-}
 
 fn nums(bytes: &[u8]) -> Vec<u16> {
     bytes
@@ -110,14 +92,6 @@ fn line(answer: i64, accepted: impl Fn(i64) -> String) -> String {
         0 => accepted(answer >> 16),
         number => format!("no {number} at {}", answer >> 16),
     }
-}
-
-fn each(test: impl Fn(&'static Side)) {
-    #[cfg(feature = "panel")]
-    test(&LIBRARY);
-    test(&FAST);
-    test(&SENTENCES);
-    test(&BY_LAST);
 }
 
 #[test]

@@ -2,15 +2,17 @@
 -- numbers. Assumes nothing.
 use mathlib.Core.Path.{_≡_, refl, sym, _∙_}
 use mathlib.Core.List.{map, foldl}
-use Prim.Native.Nat.{_-_, _≤_}
+use Prim.Native.Nat.{_+_, _-_, _≤_}
 use native.Mathlib.Omega.{arith}
 use borrow.Author.Needs.{needs}
 use lib.ListN.{length, drop, drop-of-length-le}
+use Rattle.decimals.specs.Bytes.{space}
 use Rattle.decimals.specs.Decimal.{decimal}
+use Rattle.cuts.proofs.Pieces.{piece-within}
 use Rattle.meanings.specs.Meanings.{withNumber}
 use Rattle.commands.specs.Words.{spacedWords}
 use Rattle.commands.specs.Commands.{gathered}
-use Rattle.commands.proofs.Words.{next-within, next-word}
+use Rattle.commands.proofs.Words.{next-word}
 use Rattle.commands.proofs.read_numbers.Statement.{statement}
 use Rattle.commands.proofs.read_numbers.Tie as tie
 
@@ -27,8 +29,8 @@ loop-holds c = (omega arith, refl)
 add-start : tie.Need-add-start Inv-loop μ-loop
 add-start c = search needs
 
-word-end-requires : tie.Need-word-end-requires Inv-loop μ-loop
-word-end-requires c κs = search needs
+end-of-requires : tie.Need-end-of-requires Inv-loop μ-loop
+end-of-requires c κs = search needs
 
 sub-read-number : tie.Need-sub-read-number Inv-loop μ-loop
 sub-read-number c = search needs
@@ -39,7 +41,7 @@ part-read-number-start c = search needs
 part-read-number-end : tie.Need-part-read-number-end Inv-loop μ-loop
 part-read-number-end c =
     let l = c .before .before in
-    next-within (l .before .before .args .text .now) (l .loop .at) (c .word-end .result) (omega arith) (c .word-end .ensures)
+    piece-within space (l .before .before .args .text .now) (l .loop .at + 1) (c .end-of .result) (c .end-of .ensures) (omega arith)
 
 read-number-requires : tie.Need-read-number-requires Inv-loop μ-loop
 read-number-requires c κs = search needs
@@ -55,8 +57,8 @@ loop-again c =
     let w = c .before .before .before in
     let l = w .before .before in
     let t = l .before .before .args .text .now in
-    let e = next-word t (l .loop .at) (w .word-end .result) (omega arith) (w .word-end .ensures) in (
-      next-within t (l .loop .at) (w .word-end .result) (omega arith) (w .word-end .ensures),
+    let e = next-word t (l .loop .at) (w .end-of .result) (omega arith) (w .end-of .ensures) in (
+      piece-within space t (l .loop .at + 1) (w .end-of .result) (w .end-of .ensures) (omega arith),
       l .loop .inv .1 ∙ rw (e, c .with-number .ensures, c .before .read-number .ensures),
     )
 
@@ -74,7 +76,7 @@ read-numbers-spec =
     μ-loop
     loop-holds
     add-start
-    word-end-requires
+    end-of-requires
     sub-read-number
     part-read-number-start
     part-read-number-end

@@ -1,18 +1,24 @@
 -- `commands::read_words` meets its contract: the first word, and the numbers after it. Assumes nothing.
+use Prim.Native.Nat.{_-_}
+use native.Mathlib.Omega.{arith}
 use borrow.Author.Needs.{needs}
+use lib.ListN.{length, drop, length-drop}
+use lib.Seq.{take-all}
+use Rattle.decimals.specs.Bytes.{space}
+use Rattle.cuts.proofs.Pieces.{piece-within}
 use Rattle.commands.specs.Commands.{meant}
-use Rattle.commands.proofs.Words.{first-inside, words-split}
+use Rattle.commands.proofs.Words.{word-split}
 use Rattle.commands.proofs.read_words.Statement.{statement}
 use Rattle.commands.proofs.read_words.Tie as tie
 
-word-end-requires : tie.Need-word-end-requires
-word-end-requires c κs = search needs
+end-of-requires : tie.Need-end-of-requires
+end-of-requires c κs = search needs
 
 sub-read-numbers : tie.Need-sub-read-numbers
-sub-read-numbers c = first-inside (c .before .before .args .text .now) (c .word-end .result) (c .word-end .ensures)
+sub-read-numbers c = piece-within space (c .before .before .args .text .now) 0 (c .end-of .result) (c .end-of .ensures) (omega arith)
 
 part-read-numbers-start : tie.Need-part-read-numbers-start
-part-read-numbers-start c = first-inside (c .before .before .args .text .now) (c .word-end .result) (c .word-end .ensures)
+part-read-numbers-start c = piece-within space (c .before .before .args .text .now) 0 (c .end-of .result) (c .end-of .ensures) (omega arith)
 
 part-read-numbers-end : tie.Need-part-read-numbers-end
 part-read-numbers-end c = search needs
@@ -29,7 +35,7 @@ part-asked-start c = search needs
 part-asked-end : tie.Need-part-asked-end
 part-asked-end c =
     let w = c .before .before in
-    first-inside (w .before .before .args .text .now) (w .word-end .result) (w .word-end .ensures)
+    piece-within space (w .before .before .args .text .now) 0 (w .end-of .result) (w .end-of .ensures) (omega arith)
 
 asked-requires : tie.Need-asked-requires
 asked-requires c κs = search needs
@@ -38,15 +44,16 @@ returns : tie.Need-returns
 unfolding meant
 returns c =
     let w = c .before .before .before .before in
-    let s = words-split (w .before .before .args .text .now) (w .word-end .result) (w .word-end .ensures) in
-    rw (s, ← c .before .before .read-numbers .ensures)
-    (c .asked .ensures)
+    let text = w .before .before .args .text .now in
+    let k = w .end-of .result in
+    let rest = take-all (length text - k) (drop k text) (omega (arith, length-drop k text)) in
+    rw (word-split text 0 k (w .end-of .ensures), ← rest, ← c .before .before .read-numbers .ensures) (c .asked .ensures)
 
 pub read-words-spec : {M : Type 1} → statement M
 read-words-spec =
     tie.close
     (tie.spec
-    word-end-requires
+    end-of-requires
     sub-read-numbers
     part-read-numbers-start
     part-read-numbers-end

@@ -3,7 +3,7 @@ use mathlib.Core.Path.{refl}
 use mathlib.Core.List.{[]}
 use borrow.Author.Needs.{needs}
 use Rattle.model.specs.Day.{dayOf, lent}
-use Rattle.input.specs.Lines.{plain}
+use Rattle.cuts.specs.Cut.{has}
 use Rattle.turns.specs.Turns.{state}
 use Rattle.console.proofs.work_last.Statement.{statement}
 use Rattle.console.proofs.work_last.Tie as tie
@@ -12,7 +12,7 @@ work-unended-requires : tie.Need-work-unended-requires
 work-unended-requires c κs = search needs
 
 print-requires : tie.Need-print-requires
-unfolding plain
+unfolding has
 print-requires c κs =
     c .before .before .before .work-unended .ensures (dayOf []) (state (lent [] []) [] []) [] refl .written .within
 

@@ -6,7 +6,8 @@
 //! `dense`, SIDE `library` or `rust`.
 //! bench operations: their names.
 
-use compare::calls::{Call, Side, BUILD, CHECK, ENQUIRE, OPERATIONS, POST, WITHDRAW};
+use compare::calls::{Call, Conversion, Side, BUILD, CHECK, ENQUIRE, EXPORT, IMPORT, MARGIN};
+use compare::calls::{OPERATIONS, POST, WITHDRAW};
 use compare::gen::{day, dense, timetable, Rng, Style};
 use compare::sides::{FAST, LIBRARY};
 use std::hint::black_box;
@@ -18,9 +19,11 @@ const STANDING: [usize; 3] = [0, 3, 200];
 /// Connections where all leave in one minute.
 const DENSE_SIZE: usize = 2000;
 /// Calls of each operation in a sample with one timetable.
-const REPEATS: [usize; OPERATIONS.len()] = [4, 2, 1, 1, 2, 2];
+const REPEATS: [usize; OPERATIONS.len()] = [4, 2, 1, 1, 2, 2, 1, 1];
 /// The number that is posted and withdrawn; it sorts into the middle of the others.
 const NUMBER: u16 = 30_000;
+/// Bytes of the longest export.
+const LONGEST_TEXT: usize = 113_838;
 /// How many timetables are called in turn.
 const TIMETABLES: usize = 16;
 
@@ -64,6 +67,13 @@ impl Areas {
     }
 }
 
+/// What is measured.
+#[derive(Clone, Copy)]
+enum Task {
+    Call(Call),
+    Convert(Conversion),
+}
+
 /// A timetable and the areas that calls with it work on.
 #[derive(Clone)]
 struct Setup {
@@ -71,6 +81,11 @@ struct Setup {
     file: Vec<u8>,
     s: usize,
     c: usize,
+    /// Its text, as exported, which is imported.
+    text: Vec<u8>,
+    /// What the conversions write, just fitting.
+    imported: Vec<u8>,
+    exported: Vec<u8>,
     /// Built anew.
     fresh: Areas,
     /// Posted to and withdrawn from: as `full`, but 199 notices in place of 200.
@@ -102,11 +117,18 @@ impl Setup {
                 base = full.clone();
             }
         }
+        let mut text = vec![0; LONGEST_TEXT];
+        let answer = (FAST.export)(&file, &mut text);
+        assert_eq!(answer % 65536, 0);
+        text.truncate((answer / 65536) as usize);
         Setup {
             shape,
+            imported: vec![0; file.len()],
+            exported: vec![0; text.len()],
             file,
             s,
             c,
+            text,
             fresh,
             base,
             full,
@@ -122,9 +144,9 @@ impl Setup {
         Call::Post(NUMBER, rng.below(self.c) as u16, rng.range(1, 360) as u16)
     }
 
-    /// A call of the operation that OPERATIONS has at this place. An enquiry is between any two stops.
-    fn draw(&self, op: usize, rng: &mut Rng) -> Call {
-        match op {
+    /// A task of the operation that OPERATIONS has at this place. An enquiry is between any two stops.
+    fn draw(&self, op: usize, rng: &mut Rng) -> Task {
+        Task::Call(match op {
             CHECK => Call::Check,
             BUILD => Call::Build,
             POST => self.posting(rng),
@@ -138,11 +160,38 @@ impl Setup {
                     rng.range(300, self.shape.latest) as u16,
                 )
             }
-            _ => {
+            MARGIN => {
                 let ride = rng.below(self.c) as u16;
                 Call::Margin(ride, ride / 2)
             }
+            IMPORT => return Task::Convert(Conversion::Import),
+            EXPORT => return Task::Convert(Conversion::Export),
+            _ => unreachable!("a place of OPERATIONS"),
+        })
+    }
+
+    fn run(&mut self, side: &Side, task: Task) {
+        match task {
+            Task::Call(call) => self.call(side, call),
+            Task::Convert(conversion) => self.convert(side, conversion),
         }
+    }
+
+    /// Makes a conversion. An import gets the change minutes as the file has them.
+    fn convert(&mut self, side: &Side, conversion: Conversion) {
+        let (answer, made) = match conversion {
+            Conversion::Import => {
+                let change = &self.file[9..9 + 2 * self.s];
+                let answer = (side.import)(&self.text, change, &mut self.imported);
+                (answer, &self.imported)
+            }
+            Conversion::Export => {
+                let answer = (side.export)(&self.file, &mut self.exported);
+                (answer, &self.exported)
+            }
+        };
+        assert_eq!(black_box(answer), 65536 * made.len() as i64);
+        black_box(made);
     }
 
     /// Makes a call on its areas.
@@ -177,15 +226,15 @@ fn measure(timetables: &[Setup], repeats: [usize; OPERATIONS.len()], samples: us
     let mut all: [[Vec<f64>; 2]; OPERATIONS.len()] = Default::default();
     let mut rng = Rng(99);
     for i in 0..samples {
-        let calls: [Vec<Call>; OPERATIONS.len()] =
+        let tasks: [Vec<Task>; OPERATIONS.len()] =
             std::array::from_fn(|op| timetables.iter().map(|t| t.draw(op, &mut rng)).collect());
         for k in [i % 2, 1 - i % 2] {
             let (side, setups) = &mut sides[k];
             for op in 0..OPERATIONS.len() {
                 let start = Instant::now();
                 for _ in 0..repeats[op] {
-                    for (x, call) in setups.iter_mut().zip(&calls[op]) {
-                        x.call(side, *call);
+                    for (x, task) in setups.iter_mut().zip(&tasks[op]) {
+                        x.run(side, *task);
                     }
                 }
                 let count = repeats[op] * setups.len();
@@ -301,8 +350,8 @@ fn one(
             black_box(&mut x.base);
         }
         if let Some(place) = place {
-            let call = x.draw(place, &mut rng);
-            x.call(side, call);
+            let task = x.draw(place, &mut rng);
+            x.run(side, task);
         }
     }
     true

@@ -32,7 +32,9 @@ fn main() -> ExitCode {
     ];
     for (name, mut t, sizes) in parts {
         for round in 0..*rounds {
-            t.round(seed.wrapping_mul(1_000_000_007).wrapping_add(round), sizes);
+            let seed = seed.wrapping_mul(1_000_000_007).wrapping_add(round);
+            t.round(seed, sizes);
+            t.conversions(seed, sizes);
         }
         t.count_answers();
         println!("{name}: answers seen, as number:times with 0 for accepted");

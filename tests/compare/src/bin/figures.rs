@@ -136,10 +136,17 @@ fn panel(svg: &mut String, counts: &Counts, op: usize, left: f64, top: f64) {
     }
 }
 
+/// Panels side by side, and what each of them takes.
+const ACROSS: usize = 3;
+const WIDTH: usize = 305;
+const HEIGHT: usize = 225;
+
 fn drawing(counts: &Counts) -> String {
-    let mut svg = String::from(
-        r##"<svg xmlns="http://www.w3.org/2000/svg" width="960" height="500" font-family="sans-serif" font-size="11">
-<rect width="960" height="500" fill="#fff"/>
+    let width = 45 + ACROSS * WIDTH;
+    let height = 50 + OPERATIONS.len().div_ceil(ACROSS) * HEIGHT;
+    let mut svg = format!(
+        r##"<svg xmlns="http://www.w3.org/2000/svg" width="{width}" height="{height}" font-family="sans-serif" font-size="11">
+<rect width="{width}" height="{height}" fill="#fff"/>
 <text x="70" y="20">Instructions of one call by connections,
 library <tspan fill="#05a">blue</tspan>, Rust <tspan fill="#888">grey</tspan></text>
 "##,
@@ -149,8 +156,8 @@ library <tspan fill="#05a">blue</tspan>, Rust <tspan fill="#888">grey</tspan></t
             &mut svg,
             counts,
             op,
-            70.0 + 305.0 * (op % 3) as f64,
-            60.0 + 225.0 * (op / 3) as f64,
+            (70 + WIDTH * (op % ACROSS)) as f64,
+            (60 + HEIGHT * (op / ACROSS)) as f64,
         );
     }
     svg.push_str("</svg>\n");

@@ -58,10 +58,19 @@ mod c {
             ride: u16,
             next: u16,
         ) -> i64;
+        pub fn ttg_import(
+            text: *const u8,
+            text_len: usize,
+            change: *const u8,
+            change_len: usize,
+            file: *mut u8,
+            file_len: usize,
+        ) -> u64;
+        pub fn ttg_export(file: *const u8, file_len: usize, text: *mut u8, text_len: usize) -> u64;
     }
 }
 
-// SAFETY, for all six: pointer and length come from one slice each, the slices live through
+// SAFETY, for all eight: pointer and length come from one slice each, the slices live through
 // the call, and mutable ones overlap nothing.
 
 fn check(file: &[u8]) -> u64 {
@@ -163,6 +172,25 @@ fn margin(file: &[u8], notices: &[u8], graph: &[u8], ride: u16, next: u16) -> i6
     }
 }
 
+fn import(text: &[u8], change: &[u8], file: &mut [u8]) -> i64 {
+    let answer = unsafe {
+        c::ttg_import(
+            text.as_ptr(),
+            text.len(),
+            change.as_ptr(),
+            change.len(),
+            file.as_mut_ptr(),
+            file.len(),
+        )
+    };
+    answer as i64
+}
+
+fn export(file: &[u8], text: &mut [u8]) -> i64 {
+    let answer = unsafe { c::ttg_export(file.as_ptr(), file.len(), text.as_mut_ptr(), text.len()) };
+    answer as i64
+}
+
 fn call(file: &[u8], [n, g, w, j]: Lent, call: Call) -> i64 {
     match call {
         Call::Check => check(file) as i64,
@@ -177,4 +205,6 @@ fn call(file: &[u8], [n, g, w, j]: Lent, call: Call) -> i64 {
 pub static LIBRARY: Side = Side {
     name: "library",
     call,
+    import,
+    export,
 };

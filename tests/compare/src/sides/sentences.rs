@@ -1,6 +1,7 @@
-//! Document 01 rule by rule: slow, obvious, for small timetables. Every valid journey is listed,
-//! and the first in document 01's order is taken. The refusals of all operations are one list in
-//! document 01's order, each made where the call has the input that it is about.
+//! Documents 01 and 02 rule by rule: slow, obvious, for small timetables. Every valid journey is
+//! listed, and the first in document 01's order is taken. The refusals of all operations on a
+//! timetable are one list in document 01's order, each made where the call has the input that it
+//! is about.
 
 #![forbid(unsafe_code)]
 
@@ -14,6 +15,8 @@ pub const MOST: usize = 16;
 pub static SENTENCES: Side = Side {
     name: "sentences",
     call: |file, areas, call| make(file, areas, call, by_listing),
+    import: |text, change, file| flat(import(text, change, file)),
+    export: |file, text| flat(export(file, text)),
 };
 
 /// The same for timetables of any size: of the journeys that end with a connection, only the first
@@ -21,6 +24,7 @@ pub static SENTENCES: Side = Side {
 pub static BY_LAST: Side = Side {
     name: "by last connection",
     call: |file, areas, call| make(file, areas, call, by_last),
+    ..SENTENCES
 };
 
 #[derive(Clone, Debug)]
@@ -477,8 +481,172 @@ fn answer(file: &[u8], areas: &mut Lent, call: Call, lists: Lists) -> Result<i64
 }
 
 fn make(file: &[u8], mut areas: Lent, call: Call, lists: Lists) -> i64 {
-    match answer(file, &mut areas, call, lists) {
+    flat(answer(file, &mut areas, call, lists))
+}
+
+fn flat(answer: Result<i64, Refusal>) -> i64 {
+    match answer {
         Ok(value) => 65536 * value,
         Err((number, place)) => number as i64 + 65536 * place as i64,
     }
+}
+
+// ---------------------------------------------------------------- stop_times.txt
+
+const HEADER: &[u8] = b"trip_id,arrival_time,departure_time,stop_id,stop_sequence\n";
+
+/// A row; its times are in minutes.
+struct Row {
+    trip: usize,
+    arrival: usize,
+    departure: usize,
+    stop: usize,
+    sequence: usize,
+}
+
+fn all_digits(word: &[u8]) -> bool {
+    word.iter().all(u8::is_ascii_digit)
+}
+
+/// The value of digits.
+fn value(digits: &[u8]) -> usize {
+    digits.iter().fold(0, |n, d| 10 * n + usize::from(d - b'0'))
+}
+
+/// Decimals as in document 01's commands: 1 to 5 digits, up to 65,535.
+fn decimal(word: &[u8]) -> Option<usize> {
+    if !(1..=5).contains(&word.len()) || !all_digits(word) {
+        return None;
+    }
+    Some(value(word)).filter(|&n| n <= 65535)
+}
+
+/// H:MM:SS or HH:MM:SS, minutes 00 to 59, seconds 00; the hours may pass 24.
+fn clock(word: &[u8]) -> Option<usize> {
+    let parts: Vec<&[u8]> = word.split(|&b| b == b':').collect();
+    let [hours, minutes, seconds] = parts[..] else {
+        return None;
+    };
+    if !(1..=2).contains(&hours.len()) || !all_digits(hours) {
+        return None;
+    }
+    if minutes.len() != 2 || !all_digits(minutes) || value(minutes) > 59 {
+        return None;
+    }
+    if seconds != b"00" {
+        return None;
+    }
+    Some(60 * value(hours) + value(minutes))
+}
+
+/// A line with its newline: the five columns, without quotes.
+fn row(line: &[u8]) -> Option<Row> {
+    let line = line.strip_suffix(b"\n")?;
+    let columns: Vec<&[u8]> = line.split(|&b| b == b',').collect();
+    let [trip, arrival, departure, stop, sequence] = columns[..] else {
+        return None;
+    };
+    Some(Row {
+        trip: decimal(trip)?,
+        arrival: clock(arrival)?,
+        departure: clock(departure)?,
+        stop: decimal(stop)?,
+        sequence: decimal(sequence)?,
+    })
+}
+
+/// Rows come by trip from 0 with no gap, with rising stop_sequence.
+fn comes_next(before: Option<&Row>, row: &Row) -> bool {
+    match before {
+        None => row.trip == 0,
+        Some(p) if row.trip == p.trip => row.sequence > p.sequence,
+        Some(p) => row.trip == p.trip + 1,
+    }
+}
+
+/// The rows, or 31: the first row not as above, else the first alone in its trip.
+fn rows(text: &[u8]) -> Result<Vec<Row>, Refusal> {
+    let mut lines = text.split_inclusive(|&b| b == b'\n');
+    if lines.next() != Some(HEADER) {
+        return Err((31, 0));
+    }
+    let mut rows: Vec<Row> = Vec::new();
+    for (i, line) in lines.enumerate() {
+        let row = row(line).ok_or((31, i + 1))?;
+        if !comes_next(rows.last(), &row) {
+            return Err((31, i + 1));
+        }
+        rows.push(row);
+    }
+    for i in 0..rows.len() {
+        let with_before = i > 0 && rows[i - 1].trip == rows[i].trip;
+        let with_next = i + 1 < rows.len() && rows[i + 1].trip == rows[i].trip;
+        if !with_before && !with_next {
+            return Err((31, i + 1));
+        }
+    }
+    Ok(rows)
+}
+
+/// The file of rows and change minutes, accepted or not. A count past 16 bits becomes 65,535, which
+/// is refused as it is.
+fn file_of(rows: &[Row], change: &[usize]) -> Vec<u8> {
+    let mut rides = Vec::new();
+    for i in 1..rows.len() {
+        let (a, b) = (&rows[i - 1], &rows[i]);
+        if a.trip == b.trip {
+            rides.push([a.trip, a.stop, b.stop, a.departure, b.arrival]);
+        }
+    }
+    let counts = [change.len(), rides.len()].map(|n| n.min(65535));
+    let numbers = [&[1], &counts[..], change, &rides.concat()].concat();
+    let mut file = vec![0; 3 + 2 * numbers.len()];
+    file[..3].copy_from_slice(b"TTG");
+    put(&mut file[3..], &numbers);
+    file
+}
+
+fn import(text: &[u8], change: &[u8], file: &mut [u8]) -> Result<i64, Refusal> {
+    let made = file_of(&rows(text)?, &get(change));
+    read(&made)?;
+    write(file, &made)
+}
+
+/// Refusal 32, or the bytes written.
+fn write(area: &mut [u8], bytes: &[u8]) -> Result<i64, Refusal> {
+    if area.len() < bytes.len() {
+        return Err((32, 0));
+    }
+    area[..bytes.len()].copy_from_slice(bytes);
+    Ok(bytes.len() as i64)
+}
+
+/// HH:MM:SS.
+fn shown(minutes: usize) -> String {
+    format!("{:02}:{:02}:00", minutes / 60, minutes % 60)
+}
+
+/// The text of a timetable: for each trip its stops.
+fn text_of(t: &Timetable) -> Vec<u8> {
+    let mut text = HEADER.to_vec();
+    let trips = t.rides.last().map_or(0, |r| r.trip + 1);
+    for trip in 0..trips {
+        let rides: Vec<&Ride> = t.rides.iter().filter(|r| r.trip == trip).collect();
+        for stop in 0..=rides.len() {
+            let comes = (stop > 0).then(|| rides[stop - 1]);
+            let goes = rides.get(stop);
+            let id = goes.map(|r| r.from).or(comes.map(|r| r.to));
+            let arrival = comes.map(|r| r.arr).or(goes.map(|r| r.dep));
+            let departure = goes.map(|r| r.dep).or(comes.map(|r| r.arr));
+            let [id, arrival, departure] = [id, arrival, departure].map(|n| n.expect("a ride"));
+            let (arrival, departure) = (shown(arrival), shown(departure));
+            text.extend(format!("{trip},{arrival},{departure},{id},{stop}\n").bytes());
+        }
+    }
+    text
+}
+
+fn export(file: &[u8], text: &mut [u8]) -> Result<i64, Refusal> {
+    let t = read(file)?;
+    write(text, &text_of(&t))
 }

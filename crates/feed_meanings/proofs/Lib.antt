@@ -1,0 +1,12 @@
+pub mod Words
+pub mod Columns
+pub mod Order
+pub mod Alone
+pub mod Texts
+pub mod Fields
+pub mod Trips
+pub mod Imports
+pub mod Exports
+pub mod Plain
+pub mod Calls
+pub mod Unique

@@ -1,0 +1,3 @@
+pub mod Knowledge
+pub mod Turns
+pub mod Verdicts

@@ -1,0 +1,11 @@
+pub mod Clock
+pub mod Conversions
+pub mod FileNumbers
+pub mod Files
+pub mod Imports
+pub mod Instances
+pub mod Lines
+pub mod RowTexts
+pub mod Rows
+pub mod RowsRead
+pub mod Transfers

@@ -1,0 +1,3 @@
+pub mod TimetableRows
+pub mod TimetableFile
+pub mod RoundTrips

@@ -1,0 +1,3 @@
+pub mod Columns
+pub mod Lines
+pub mod Rows
