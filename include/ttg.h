@@ -99,8 +99,8 @@ enum ttg_number {
     TTG_REFUSED_SHORT_GRAPH = 22,     /* `graph` is too short */
     TTG_REFUSED_NOTICES = 23,         /* `notices` breaks its rules; place: the first wrong row, from 1, or 0 for the count */
     TTG_REFUSED_GRAPH = 24,           /* `graph` is not that of this timetable and these notices */
-    TTG_REFUSED_STANDS = 25,          /* a notice of this number stands already */
-    TTG_REFUSED_FULL = 26,            /* 200 notices stand */
+    TTG_REFUSED_STANDS = 25,          /* a notice of this number stands for another ride */
+    TTG_REFUSED_FULL = 26,            /* 200 notices stand, none of this number */
     TTG_REFUSED_STANDS_NOT = 27,      /* no notice of this number stands */
     TTG_REFUSED_SHORT_WORK = 28,      /* `work` is too short */
     TTG_REFUSED_SHORT_JOURNEY = 29,   /* `journey` is too short */
@@ -115,7 +115,8 @@ uint64_t ttg_check(const uint8_t *file, size_t file_len);
 /* Zeroes the notice area and fills the graph of the timetable without notices. Accepted: TTG_STOPS, TTG_RIDES. */
 uint64_t ttg_build(const uint8_t *file, size_t file_len, uint8_t *notices, size_t notices_len, uint8_t *graph, size_t graph_len);
 
-/* Posts notice `number`: ride `ride` is `delay` minutes late. Accepted: TTG_NOTICE. */
+/* Posts notice `number`: ride `ride` is `delay` minutes late. If the number stands for this ride, the delay replaces the old one.
+   Accepted: TTG_NOTICE. */
 uint64_t ttg_post(const uint8_t *file, size_t file_len, uint8_t *notices, size_t notices_len, uint8_t *graph, size_t graph_len,
                   uint16_t number, uint16_t ride, uint16_t delay);
 

@@ -47,6 +47,7 @@ static void *nothing(void *unused) { return unused; }
 static void *check(void *unused) { answer = ttg_check(file, sizeof file); return unused; }
 static void *build(void *unused) { answer = ttg_build(BOTH); return unused; }
 static void *post(void *unused) { answer = ttg_post(BOTH, NOTICES, 1, 10); return unused; }
+static void *correct(void *unused) { answer = ttg_post(BOTH, NOTICES, 1, 1440); return unused; }
 static void *withdraw(void *unused) { answer = ttg_withdraw(BOTH, NOTICES); return unused; }
 static void *enquire(void *unused) { answer = ttg_enquire(BOTH, work, sizeof work, journey, sizeof journey, 0, 5, 0); return unused; }
 static void *margin(void *unused) { answer = (uint64_t)ttg_margin(BOTH, 0, 1); return unused; }
@@ -77,8 +78,8 @@ static size_t used(void *(*call)(void *))
 int main(void)
 {
     static const struct { const char *name; void *(*call)(void *); } calls[] = {
-        { "check", check }, { "build", build }, { "post", post }, { "withdraw", withdraw }, { "enquire", enquire }, { "margin", margin },
-        { "export", export }, { "import", import },
+        { "check", check }, { "build", build }, { "post", post }, { "correct", correct }, { "withdraw", withdraw }, { "enquire", enquire },
+        { "margin", margin }, { "export", export }, { "import", import },
     };
     unsigned passed = 0, failed = 0;
     make_file();

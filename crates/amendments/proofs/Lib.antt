@@ -1,3 +1,4 @@
 pub mod StoredRow
 pub mod Pushing
+pub mod Replacing
 pub mod ClosingUp

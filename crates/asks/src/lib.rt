@@ -9,7 +9,7 @@ use timetable::Verdict;
 // No notice has this number.
 const NO_NUMBER: u16 = 0;
 
-// Refusals 12, 13, 14, 25 and 26 of a posting, by the notices that stand.
+// Refusals 12, 13, 14, 25 and 26 of a posting, by the notices that stand; a number that stands needs no room.
 pub fn posting_verdict(notices: &[u16], n: u16, number: u16, connection: u16, delay: u16) -> Verdict
     requires { ⌜ ((C : ℕ) × Standing C (now notices)) ⌝ }
     ensures { λ r. ⌜ r ≡ askedVerdict (rowsOf (now (notices .entry))) (postingAsks n number connection delay) ⌝ }
@@ -26,8 +26,11 @@ pub fn posting_verdict(notices: &[u16], n: u16, number: u16, connection: u16, de
     if model::MOST_POSTED < delay {
         return Verdict::Refused(refusal::WRONG_DELAY, 0);
     }
+    if notices::stands_elsewhere(notices, number, connection) {
+        return Verdict::Refused(refusal::STANDS_ELSEWHERE, 0);
+    }
     if notices::is_standing(notices, number) {
-        return Verdict::Refused(refusal::STANDS_ALREADY, 0);
+        return Verdict::Passed;
     }
     if model::ROOM <= notices[0] {
         return Verdict::Refused(refusal::NO_ROOM, 0);

@@ -1,7 +1,7 @@
 -- Laws of texts cut at a byte, of their pieces and of how they start. Assumes nothing.
 use mathlib.Core.Path.{_≡_, refl, sym, ap, _∙_}
 use mathlib.Core.Logic.{⊎-elim}
-use mathlib.Core.Bool.{Bool, true, false, _||_, and-false, or-true, or-assoc}
+use mathlib.Core.Bool.{true, false, _||_, and-false, or-true, or-assoc}
 use mathlib.Core.List.{List, [], _∷_, _++_}
 use Prim.Native.Nat.{ℕ, zero, suc, _<_, _≤_}
 use native.Mathlib.Omega.{arith}
@@ -13,18 +13,13 @@ use Rattle.decimals.specs.Bytes.{newline}
 use Rattle.decimals.specs.Decimal.{isDigit, allDigits, decimal}
 use Rattle.decimals.specs.declared.Number.the-variants.{Is, Unread}
 use Rattle.cuts.specs.Cut.{has, before, after, startsWith, onFirst, pieces, linesOf}
-use Rattle.timetable.proofs.Tests.{by-bool, and-left, and-right, not-both}
-
--- neither of two tests passes
-or-none : (p q : Bool) → p || q ≡ false → (p ≡ false) × (q ≡ false)
-or-none true q h = absurd (not-both refl h)
-or-none false q h = (refl, h)
+use Rattle.timetable.proofs.Tests.{by-bool, and-left, and-right, not-both, both-fail}
 
 module _ (byte : ℕ) where
   -- a text without the byte: neither the first is it, nor do the others have it
   pub has-none : (b : ℕ) (bs : List ℕ) → has byte (b ∷ bs) ≡ false → (eqb b byte ≡ false) × (has byte bs ≡ false)
   unfolding has
-  has-none b bs h = or-none (eqb b byte) (has byte bs) h
+  has-none b bs h = both-fail (eqb b byte) (has byte bs) h
 
   -- a text from a place on: the byte there is it, or the others have it
   pub has-at : (t : List ℕ) (i : ℕ) → i < length t → has byte (drop i t) ≡ eqb (getD t i 0) byte || has byte (drop (suc i) t)

@@ -4,11 +4,15 @@ use mathlib.Core.Logic.{_⊎_, inl, inr, ⊎-elim}
 use mathlib.Core.Bool.{Bool, true, false}
 use Prim.Native.Nat.{ℕ, suc, _<_, _≤_}
 use native.Mathlib.Omega.{arith}
-pub use Rattle.timetable.proofs.Tests.{by-lt, by-eq, by-bool, and-left, and-right, and-both, or-cases, or-left, or-right}
+pub use Rattle.timetable.proofs.Tests.{by-lt, by-eq, by-bool, and-left, and-right, and-both, or-cases, both-fail, or-left, or-right}
 
 -- below n + 1 is below n, or n
 pub by-last : {n k : ℕ} → k < suc n → (k < n) ⊎ (k ≡ n)
 by-last {n} {k} h = ⊎-elim (λ l. inl l) (λ (g : n ≤ k). inr (omega arith)) (by-lt k n)
+
+-- at most n and not n is below n
+pub strictly : (m n : ℕ) → m ≤ n → (m ≡ n → ⊥) → m < n
+strictly m n l d = omega arith
 
 -- two tests that pass together are equal
 pub same-test : (p q : Bool) → (p ≡ true → q ≡ true) → (q ≡ true → p ≡ true) → p ≡ q

@@ -1,16 +1,16 @@
--- Cases worked by hand from document 01's rules on small timetables of their own, as rows of one table under one claim. Each row
--- has what the definitions of the operations give and the numbers that were worked out. Assumes nothing.
+-- Cases worked by hand from the rules, on example J and on small timetables of their own, as rows of one table under one claim. Each
+-- row has what the definitions of the operations give and the numbers that were worked out. Assumes nothing.
 use mathlib.Core.Path.{_≡_, refl}
 use mathlib.Core.Bool.{Bool, true, cond}
 use mathlib.Core.List.{List, [], _∷_, _++_}
-use Prim.Native.Nat.{ℕ, suc, _*_}
+use Prim.Native.Nat.{ℕ, zero, suc, _*_}
 use lib.IntN.{ℤ, pos, negsuc}
 use lib.ListN.{take, replicate}
 use Rattle.timetable.specs.Answers.{Answer, accepted, refused, firstBelow}
 use Rattle.timetable.specs.File.{connections, transferTime, trip, from, to, scheduledDeparture, scheduledArrival, staysAboard}
 use Rattle.timetable.specs.Check.{headerVerdict, stopVerdict, wrongStops, wrongTrip, wrongTimes, wrongJoin, connectionVerdict, fileVerdict}
 use Rattle.model.specs.Least.{none, leastBelow, tab}
-use Rattle.model.specs.Notices.{noticesLength, flat, cut, areaOf, rowsOf, stands, entered, struck, standsRight, unusedRight, rowsFrom, rowsVerdict}
+use Rattle.model.specs.Notices.{Notice, notice, room, noticesLength, flat, cut, areaOf, rowsOf, some, stands, standsElsewhere, struck, inserted, entered, standsRight, unusedRight, rowsFrom, rowsVerdict}
 use Rattle.model.specs.Times.{primaryDelay, expectedDeparture, expectedArrival, networkOf}
 use Rattle.model.specs.Graph.{firstOn, waiting, transferTo, firstDeparture, times, graphOf}
 use Rattle.model.specs.Journeys.{canBeFirst, canFollow}
@@ -19,10 +19,10 @@ use Rattle.model.specs.Margin.{marginOf}
 use Rattle.model.specs.Day.{dayOf, lent}
 use Rattle.model.specs.Drawn.{graphLength, graphFor, same}
 use Rattle.model.specs.Parts.{partVerdict}
-use Rattle.model.specs.Operations.{built, changed, Enquiry, enquired, margined}
-use Rattle.model.specs.Register.{Call, posting, withdrawal, has, without, registerStep, kept}
+use Rattle.model.specs.Operations.{Outcome, written, built, changed, posted, Enquiry, enquired, margined}
+use Rattle.model.specs.Register.{Call, posting, withdrawal, has, hasElsewhere, corrected, without, registerStep, kept}
 use Rattle.model.specs.Runs.{Run, ran, runOf, registerOf}
-use Rattle.model.specs.Example.{fileOf, inBytes}
+use Rattle.model.specs.Example.{exampleJ, fileOf, inBytes}
 use Rattle.model.proofs.Instances.{Row, right, told}
 
 -- a timetable built on areas that hold sevens and have one number too many, with these calls worked
@@ -61,6 +61,18 @@ marginIn f calls c d = spare (margined (dayOf f) (run f calls .areas) c d)
 unfoldable pub tests : List Bool → List ℕ
 tests [] = []
 tests (b ∷ bs) = cond b 1 0 ∷ tests bs
+
+-- notices for connection 0 by a minute each: so many, numbered from k on
+unfoldable pub notices : ℕ → ℕ → List Notice
+notices k zero = []
+notices k (suc m) = notice k 0 1 ∷ notices (suc k) m
+
+-- a timetable with 200 notices for connection 0, numbered from 1 on, and one more posted: the answer, and the notice area
+unfoldable pub withFull : List ℕ → ℕ → ℕ → ℕ → Outcome ℕ
+withFull f n c d = posted (dayOf f) (written (dayOf f) (lent [] []) (notices 1 room)) n c d
+
+unfoldable pub fullTold : Outcome ℕ → List ℕ
+fullTold o = answersTold (o .answer ∷ []) ++ o .areas .notices
 
 -- departures in one minute
 unfoldable pub sameMinute : List ℕ
@@ -422,6 +434,50 @@ cases =
       answersTold (run trips (posting 1 0 8 ∷ withdrawal 1 ∷ withdrawal 1 ∷ posting 1 3 2 ∷ []) .answers),
       0 ∷ 1 ∷ 0 ∷ 1 ∷ 27 ∷ 0 ∷ 0 ∷ 1 ∷ [],
     ) ∷
+    -- 8 minutes corrected to 6, and 6 to 8: the times are those of the last
+    (timesIn trips (posting 1 0 8 ∷ posting 1 0 6 ∷ []), 106 ∷ 116 ∷ 116 ∷ 126 ∷ 127 ∷ 137 ∷ 140 ∷ 150 ∷ []) ∷
+    (timesIn trips (posting 1 0 6 ∷ posting 1 0 8 ∷ []), 108 ∷ 118 ∷ 118 ∷ 128 ∷ 128 ∷ 138 ∷ 140 ∷ 150 ∷ []) ∷
+    -- of 9 and 4 minutes the 9 corrected to 3: the 4 count
+    (timesIn trips (posting 5 1 9 ∷ posting 6 1 4 ∷ posting 5 1 3 ∷ []), 100 ∷ 110 ∷ 119 ∷ 129 ∷ 129 ∷ 139 ∷ 140 ∷ 150 ∷ []) ∷
+    -- the same again is answered again and changes nothing
+    (answersTold (run trips (posting 1 0 8 ∷ posting 1 0 8 ∷ []) .answers), 0 ∷ 1 ∷ 0 ∷ 1 ∷ []) ∷
+    (run trips (posting 1 0 8 ∷ posting 1 0 8 ∷ []) .areas .notices, 1 ∷ 1 ∷ 0 ∷ 8 ∷ (replicate 597 0 ++ (7 ∷ []))) ∷
+    (run trips (posting 1 0 8 ∷ posting 1 0 8 ∷ []) .areas .graph, run trips (posting 1 0 8 ∷ []) .areas .graph) ∷
+    -- the first, the last and the middle row corrected, and the middle one refused on another connection: three notices stand
+    (answersTold (run trips corrections .answers), 0 ∷ 7 ∷ 0 ∷ 3 ∷ 0 ∷ 5 ∷ 0 ∷ 3 ∷ 0 ∷ 7 ∷ 25 ∷ 0 ∷ 0 ∷ 5 ∷ []) ∷ (
+      run trips corrections .areas .notices,
+      3 ∷ 3 ∷ 1 ∷ 9 ∷ 5 ∷ 3 ∷ 6 ∷ 7 ∷ 0 ∷ 1 ∷ (replicate 591 0 ++ (7 ∷ [])),
+    ) ∷
+    (run trips corrections .areas .graph, graphFor (dayOf trips) (registerOf (dayOf trips) corrections .register) ++ (7 ∷ [])) ∷
+    -- the register answers alike, and corrects each notice where it is
+    (answersTold (registerOf (dayOf trips) corrections .answers), answersTold (run trips corrections .answers)) ∷
+    (flat (registerOf (dayOf trips) corrections .register), 7 ∷ 0 ∷ 1 ∷ 3 ∷ 1 ∷ 9 ∷ 5 ∷ 3 ∷ 6 ∷ []) ∷
+    -- on J 10 minutes for connection 1 corrected to 12: from 637 to 652, so that 4, at 642, is earlier; 25 on connection 0; withdrawn
+    (answersTold (run exampleJ onJ .answers), 0 ∷ 7 ∷ 0 ∷ 7 ∷ 25 ∷ 0 ∷ 0 ∷ 7 ∷ []) ∷
+    (timesIn exampleJ (take 3 onJ), 600 ∷ 620 ∷ 637 ∷ 652 ∷ 622 ∷ 650 ∷ 655 ∷ 690 ∷ 630 ∷ 642 ∷ []) ∷ (
+      enquiryIn exampleJ (take 3 onJ) 0 2 595,
+      0 ∷ 642 ∷ 2 ∷
+          0 ∷ 0 ∷ none ∷ 1 ∷ 0 ∷ 9 ∷
+          0 ∷ 4 ∷ 8 ∷ 8 ∷ 8 ∷ 8 ∷ [],
+    ) ∷ (
+      enquiryIn exampleJ onJ 0 2 595,
+      0 ∷ 640 ∷ 2 ∷
+          0 ∷ 0 ∷ none ∷ 1 ∷ 0 ∷ 9 ∷
+          0 ∷ 1 ∷ 8 ∷ 8 ∷ 8 ∷ 8 ∷ [],
+    ) ∷
+    -- with 200 notices the first, a middle and the last corrected to 5 minutes; the graph then
+    (fullTold (withFull narrow 1 0 5), 0 ∷ 1 ∷ 200 ∷ 1 ∷ 0 ∷ 5 ∷ flat (notices 2 199)) ∷
+    (fullTold (withFull narrow 77 0 5), 0 ∷ 77 ∷ 200 ∷ (flat (notices 1 76) ++ (77 ∷ 0 ∷ 5 ∷ flat (notices 78 123)))) ∷
+    (fullTold (withFull narrow 200 0 5), 0 ∷ 200 ∷ 200 ∷ (flat (notices 1 199) ++ (200 ∷ 0 ∷ 5 ∷ []))) ∷ (
+      withFull narrow 77 0 5 .areas .graph,
+      105 ∷ 115 ∷ 112 ∷ 120 ∷
+          none ∷ none ∷
+          none ∷ none ∷
+          0 ∷ 1 ∷ none ∷ [],
+    ) ∷
+    -- number 201 finds no room; number 77 stands on another connection
+    (fullTold (withFull narrow 201 0 5), 26 ∷ 0 ∷ 200 ∷ flat (notices 1 200)) ∷
+    (fullTold (withFull narrow 77 1 5), 25 ∷ 0 ∷ 200 ∷ flat (notices 1 200)) ∷
     -- of two that can stand before 2 the lower, although it arrives later
     (
       enquiryIn choice [] 0 2 100,
@@ -464,16 +520,22 @@ cases =
         posting 0 4 0 ∷ posting 1 4 0 ∷ posting 1 0 0 ∷ posting 1 0 1441 ∷ posting 1 0 8 ∷ posting 1 1 2 ∷ posting 1 4 5
         ∷ withdrawal 0 ∷ withdrawal 2 ∷ []
 
+    corrections : List Call
+    corrections = posting 7 0 8 ∷ posting 3 1 2 ∷ posting 5 3 4 ∷ posting 3 1 9 ∷ posting 7 0 1 ∷ posting 5 1 1 ∷ posting 5 3 6 ∷ []
+
+    onJ : List Call
+    onJ = posting 7 1 10 ∷ posting 7 1 12 ∷ posting 7 0 3 ∷ withdrawal 7 ∷ []
+
     asTheyCame : List Call
     asTheyCame = posting 7 0 8 ∷ posting 3 1 2 ∷ posting 5 3 4 ∷ withdrawal 3 ∷ posting 3 2 1 ∷ []
 
 pub cases-right : right cases ≡ true
-unfolding right cases told whole enquiryIn spare marginIn tests answersTold timesIn run
+unfolding right cases told whole enquiryIn spare marginIn tests answersTold timesIn run notices withFull fullTold exampleJ
     sameMinute overtaking loop meeting back narrow board trips choice ends empty inBytes
-    has without registerStep kept runOf ran built changed enquired margined marginOf partVerdict same
+    has hasElsewhere corrected without registerStep kept runOf ran built changed enquired margined marginOf partVerdict same
     fileVerdict headerVerdict stopVerdict wrongStops wrongTrip wrongTimes wrongJoin connectionVerdict firstBelow
     transferTime trip from to scheduledDeparture scheduledArrival staysAboard
-    leastBelow tab flat cut areaOf rowsOf stands entered struck standsRight unusedRight rowsFrom rowsVerdict
+    leastBelow tab flat cut areaOf rowsOf some stands standsElsewhere struck inserted entered standsRight unusedRight rowsFrom rowsVerdict
     primaryDelay expectedDeparture expectedArrival networkOf firstOn waiting transferTo firstDeparture times graphOf
     canBeFirst canFollow choose rounds predecessors follow arriving lastTo nowhere journeyIn
 cases-right = refl

@@ -3,10 +3,11 @@
 -- The file. The check accepts exactly the files of document 01, and each refusal has its exact condition and place.
 pub use Rattle.timetable.proofs.Accepted.{accepted-iff}
 pub use Rattle.timetable.proofs.Refusals.{refused-iff}
--- The notice area. What is written is read back; refusal 23 and its place; entering and striking keep the rows in order.
+-- The notice area. What is written is read back; refusal 23 and its place; entering and striking keep the rows in order; a notice
+-- entered has the one row of its number, and every other row is as it was.
 pub use Rattle.model.proofs.Areas.{rows-area, past-area}
 pub use Rattle.model.proofs.Rows.{area-right, area-read, rows-checked, rows-place}
-pub use Rattle.model.proofs.Entering.{entered-formed, struck-formed, stands-iff, stands-entered, stands-struck, stands-other}
+pub use Rattle.model.proofs.Entering.{entered-formed, struck-formed, stands-iff, elsewhere-iff, entered-into, entered-same, stands-entered, stands-struck, stands-other}
 -- Times. The primary delay is the largest of a connection's notices, whatever their order; a late connection passes on what the time at the stop leaves; the
 -- network is sound, and no time is after 5,759.
 pub use Rattle.model.proofs.Times.{primary-among, primary-largest, primary-same, departure-own, departure-after, travel-kept, on-time, on-time-arrival, departure-most, network-sound, network-same}
@@ -25,10 +26,14 @@ pub use Rattle.model.proofs.Margin.{margin-zero, margin-missed, margin-
 -- The refusals. In which order the parts of an operation decide, what it gives that they pass, and which numbers they refuse with.
 pub use Rattle.model.proofs.Parts.{call-chain, call-passed, avoids, asked-number}
 pub use Rattle.model.proofs.Ready.{ready-by}
+-- A posting that is accepted: what stands after it, whatever stood before; posted as it stands, it changes nothing.
+pub use Rattle.model.proofs.Postings.{posted-rows, correction-count, new-count, posted-same, posted-again}
 -- Demand 2. What the answer of an enquiry means, whatever comes in.
 pub use Rattle.model.proofs.Enquiries.{enquiry-means}
--- Demand 3. The register and the rows have the same notices; each call answers as the register does; the claim about whole runs.
-pub use Rattle.model.proofs.Register.{same-arranged, has-arranged, struck-arranged, count-arranged}
+-- Demand 3. The register has of each number its latest accepted notice; the register and the rows have the same notices; each call
+-- answers as the register does; the claim about whole runs.
+pub use Rattle.model.proofs.Latest.{register-latest}
+pub use Rattle.model.proofs.Register.{same-arranged, has-arranged, elsewhere-arranged, corrected-arranged, new-arranged, struck-arranged, count-arranged}
 pub use Rattle.model.proofs.Runs.{step, whole-runs, enquiry-refusals}
 -- For C: an operation on the fronts of its areas gives what it gives on the whole areas.
 pub use Rattle.model.proofs.Fronts.{front-built, front-changed, front-margined, front-enquired}

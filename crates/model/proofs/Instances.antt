@@ -9,7 +9,7 @@ use Rattle.timetable.specs.Answers.{Answer, accepted, refused, firstBelow}
 use Rattle.timetable.specs.File.{transferTime, trip, from, to, scheduledDeparture, scheduledArrival, staysAboard}
 use Rattle.timetable.specs.Check.{headerVerdict, stopVerdict, wrongStops, wrongTrip, wrongTimes, wrongJoin, connectionVerdict, fileVerdict}
 use Rattle.model.specs.Least.{leastBelow, tab}
-use Rattle.model.specs.Notices.{noticesLength, flat, cut, areaOf, rowsOf, stands, entered, struck, standsRight, unusedRight, rowsFrom, rowsVerdict}
+use Rattle.model.specs.Notices.{noticesLength, flat, cut, areaOf, rowsOf, some, stands, standsElsewhere, struck, inserted, entered, standsRight, unusedRight, rowsFrom, rowsVerdict}
 use Rattle.model.specs.Times.{primaryDelay, expectedDeparture, expectedArrival, networkOf}
 use Rattle.model.specs.Graph.{firstOn, waiting, transferTo, firstDeparture, times, graphOf}
 use Rattle.model.specs.Journeys.{canBeFirst, canFollow}
@@ -83,7 +83,7 @@ unfolding right table told timesOf enquiryAfter after
     exampleJ inBytes runOf ran built changed enquired partVerdict same
     fileVerdict headerVerdict stopVerdict wrongStops wrongTrip wrongTimes wrongJoin connectionVerdict firstBelow
     transferTime trip from to scheduledDeparture scheduledArrival staysAboard
-    leastBelow tab flat cut areaOf rowsOf stands entered struck standsRight unusedRight rowsFrom rowsVerdict
+    leastBelow tab flat cut areaOf rowsOf some stands standsElsewhere struck inserted entered standsRight unusedRight rowsFrom rowsVerdict
     primaryDelay expectedDeparture expectedArrival networkOf firstOn waiting transferTo firstDeparture times graphOf
     canBeFirst canFollow choose rounds predecessors follow arriving lastTo nowhere journeyIn
 instances = refl

@@ -25,7 +25,9 @@ pub mod Shown
 pub mod Enquiries
 pub mod Fronts
 pub mod Register
+pub mod Latest
 pub mod Runs
+pub mod Postings
 pub mod Margin
 pub mod Instances
 pub mod Cases

@@ -16,7 +16,7 @@ use Rattle.timetable.specs.Check.{fileVerdict, Counts, countsOf}
 use Rattle.timetable.specs.declared.Verdict.{Verdict}
 use Rattle.timetable.specs.declared.Verdict.the-variants.{Passed, Refused}
 use Rattle.model.specs.RefusalNumber as refusal
-use Rattle.model.specs.Notices.{Notice, notice, room, noticesLength, width, leastDelay, mostPosted, areaOf, stands, entered, struck, Ascending, WellFormed}
+use Rattle.model.specs.Notices.{Notice, notice, room, noticesLength, width, leastDelay, mostPosted, areaOf, stands, standsElsewhere, struck, entered, Ascending, WellFormed}
 use Rattle.model.specs.Network.{Network}
 use Rattle.model.specs.Times.{networkOf}
 use Rattle.model.specs.Predecessors.{predecessors, nowhere, journeyIn}
@@ -25,17 +25,17 @@ use Rattle.model.specs.Ready.{Ready}
 use Rattle.model.specs.Drawn.{graphLength, graphFor, standing, networkBy}
 use Rattle.model.specs.Parts.{Part, Ask, askedVerdict, partVerdict, verdict, buildingParts, callParts, enquiryRoom, postingAsks, withdrawalAsks, enquiryAsks, roomVerdict, contentsVerdict}
 use Rattle.model.specs.Operations.{Outcome, outcome, written, concluded, built, changed, answered, searched, enquired}
-use Rattle.model.specs.Register.{Call, posting, withdrawal, Step, refuse, accept, without, registerStep, Kept, kept}
+use Rattle.model.specs.Register.{Call, posting, withdrawal, Step, refuse, accept, corrected, without, registerStep, Kept, kept}
 use Rattle.model.specs.Runs.{called, Ran, ran, runFrom, runOf, overAreas, registerOf, Ascends, NoticesHeld, GraphHeld, Held, Claim}
-use Rattle.model.proofs.ByCases.{and-left, and-right}
+use Rattle.model.proofs.ByCases.{by-bool, and-left, and-right}
 use Rattle.model.proofs.Verdicts.{else-passed, by-refusal, accepted-not-refused}
 use Rattle.model.proofs.Lists.{same-refl}
 use Rattle.model.proofs.Areas.{length-area, rows-area, past-area}
 use Rattle.model.proofs.Rows.{area-right}
-use Rattle.model.proofs.Entering.{entered-formed, struck-formed}
+use Rattle.model.proofs.Entering.{entered-fits, entered-formed, struck-formed}
 use Rattle.model.proofs.Times.{network-same}
 use Rattle.model.proofs.Shown.{readable, arcs-lead}
-use Rattle.model.proofs.Register.{arrangedOn, arranged, arranged-last, count-arranged, same-arranged, has-arranged, struck-arranged}
+use Rattle.model.proofs.Register.{arrangedOn, arranged, count-arranged, same-arranged, has-arranged, elsewhere-arranged, corrected-arranged, new-arranged, struck-arranged}
 use Rattle.model.proofs.Parts.{AskedWith, asked-number, call-chain, needs-passed, long-room, parts-number}
 use Rattle.model.proofs.Ready.{graph-long, ready-by}
 
@@ -210,20 +210,30 @@ module _ (day : Day) (areas₀ : Areas) where
         let R : Verdict → Step → Type 0 = λ v s. Agree day areas₀ (concluded v day (written day areas₀ rows) n ms) s in
         let least = leb leastDelay d in
         let most = leb d mostPosted in
-        rw (changed-written (postingAsks C n c d) n (entered (notice n c d)), has-arranged n register, ← (count-arranged register))
+        rw (changed-written (postingAsks C n c d) n (entered (notice n c d)), elsewhere-arranged n c register, has-arranged n register, ← (count-arranged register))
         (by-refusal R (eqb n 0) (λ e. refusal-agrees n refusal.noNumber ms)
         (λ (e₁ : eqb n 0 ≡ false). by-refusal R (leb C c) (λ e. refusal-agrees n refusal.unknownConnection ms)
         (λ (e₂ : leb C c ≡ false). by-refusal R (not (least && most)) (λ e. refusal-agrees n refusal.wrongDelay ms)
-        (λ (e₃ : not (least && most) ≡ false). by-refusal R (stands n rows) (λ e. refusal-agrees n refusal.standsAlready ms)
-        (λ (e₄ : stands n rows ≡ false). by-refusal R (leb room (length rows)) (λ e. refusal-agrees n refusal.noRoom ms)
-        (λ (e₅ : leb room (length rows) ≡ false).
+        (λ (e₃ : not (least && most) ≡ false). by-refusal R (standsElsewhere n c rows) (λ e. refusal-agrees n refusal.standsElsewhere ms)
+        (λ (e₄ : standsElsewhere n c rows ≡ false).
         let t = not-false (least && most) e₃ in
         let a : leastDelay ≤ d = leb-true _ _ (and-left least most t) in
         let b : d ≤ mostPosted = leb-true _ _ (and-right least most t) in
-        acceptance-agrees n ms (register ++ (notice n c d ∷ [])) (sym (arranged-last [] register (notice n c d)))
-        (entered-formed C (notice n c d) rows
+        let formed : not (stands n rows) && leb room (length rows) ≡ false → WellFormed C ms = λ e.
+        entered-formed C (notice n c d) rows
         (above-zero n (eqb-false _ _ e₁), record { exists = leb-false _ _ e₂; least = a; most = omega arith })
-        e₄ (leb-false _ _ e₅) w)))))))
+        (entered-fits C (notice n c d) rows e w) w in
+        ⊎-elim
+        (λ (s : stands n rows ≡ true).
+        let h = has-arranged n register ∙ s in
+        let x = elsewhere-arranged n c register ∙ e₄ in
+        rw s (acceptance-agrees n ms (corrected n d register) (corrected-arranged n c d C register (w .ascending) h x) (formed (rw s))))
+        (λ (s : stands n rows ≡ false).
+        rw s
+        (by-refusal R (leb room (length rows)) (λ e. refusal-agrees n refusal.noRoom ms)
+        (λ (e₅ : leb room (length rows) ≡ false).
+        acceptance-agrees n ms (register ++ (notice n c d ∷ [])) (new-arranged (notice n c d) register (has-arranged n register ∙ s)) (formed (rw (s, e₅))))))
+        (by-bool (stands n rows)))))))
     step (withdrawal n) =
         let ms = struck n rows in
         let R : Verdict → Step → Type 0 = λ v s. Agree day areas₀ (concluded v day (written day areas₀ rows) n ms) s in

@@ -83,20 +83,32 @@ rowsOf area = cut (countIn area) (drop 1 area)
 abbrev pub unusedOf : List ℕ → List Notice
 unusedOf area = cut (room - countIn area) (drop (1 + width * countIn area) area)
 
+-- one of the notices passes a test
+unfoldable pub some : (Notice → Bool) → List Notice → Bool
+some test [] = false
+some test (n ∷ ns) = cond (test n) true (some test ns)
+
 -- a notice of this number stands
 unfoldable pub stands : ℕ → List Notice → Bool
-stands m [] = false
-stands m (n ∷ ns) = cond (eqb (n .number) m) true (stands m ns)
+stands m ns = some (λ n. eqb (n .number) m) ns
 
--- a notice entered before the first of a higher number
-unfoldable pub entered : Notice → List Notice → List Notice
-entered a [] = a ∷ []
-entered a (n ∷ ns) = cond (ltb (a .number) (n .number)) (a ∷ n ∷ ns) (n ∷ entered a ns)
+-- a notice of this number stands on another connection
+unfoldable pub standsElsewhere : ℕ → ℕ → List Notice → Bool
+standsElsewhere m c ns = some (λ n. eqb (n .number) m && not (eqb (n .connection) c)) ns
 
 -- the notices of other numbers
 unfoldable pub struck : ℕ → List Notice → List Notice
 struck m [] = []
 struck m (n ∷ ns) = cond (eqb (n .number) m) (struck m ns) (n ∷ struck m ns)
+
+-- a notice put before the first of a higher number
+unfoldable pub inserted : Notice → List Notice → List Notice
+inserted a [] = a ∷ []
+inserted a (n ∷ ns) = cond (ltb (a .number) (n .number)) (a ∷ n ∷ ns) (n ∷ inserted a ns)
+
+-- a notice entered, in place of the one of its number if that stands
+unfoldable pub entered : Notice → List Notice → List Notice
+entered a ns = inserted a (struck (a .number) ns)
 
 -- a standing row is right after a row of the number before; 0 stands before the first row, so that no right number is 0
 unfoldable pub standsRight : ℕ → ℕ → Notice → Bool

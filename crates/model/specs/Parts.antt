@@ -10,7 +10,7 @@ use Rattle.timetable.specs.Check.{fileVerdict, Counts, countsOf}
 use Rattle.timetable.specs.declared.Verdict.{Verdict}
 use Rattle.timetable.specs.declared.Verdict.the-variants.{Passed}
 use Rattle.model.specs.RefusalNumber as refusal
-use Rattle.model.specs.Notices.{Notice, room, noticesLength, leastDelay, mostPosted, stands, rowsVerdict}
+use Rattle.model.specs.Notices.{Notice, room, noticesLength, leastDelay, mostPosted, stands, standsElsewhere, rowsVerdict}
 use Rattle.model.specs.Network.{lastExpected}
 use Rattle.model.specs.Day.{Day, Areas}
 use Rattle.model.specs.Drawn.{same, graphLength, graphFor, standing}
@@ -87,8 +87,8 @@ postingAsks C n c d =
     ask refusal.noNumber (λ ns. eqb n 0) ∷
     ask refusal.unknownConnection (λ ns. leb C c) ∷
     ask refusal.wrongDelay (λ ns. not (leb leastDelay d && leb d mostPosted)) ∷
-    ask refusal.standsAlready (λ ns. stands n ns) ∷
-    ask refusal.noRoom (λ ns. leb room (length ns)) ∷
+    ask refusal.standsElsewhere (λ ns. standsElsewhere n c ns) ∷
+    ask refusal.noRoom (λ ns. not (stands n ns) && leb room (length ns)) ∷
     []
 
 -- what a withdrawal of notice n asks

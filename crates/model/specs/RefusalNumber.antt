@@ -41,9 +41,9 @@ wrongRow = 23
 abbrev pub wrongGraph : ℕ
 wrongGraph = 24
 
--- a notice of this number stands already
-abbrev pub standsAlready : ℕ
-standsAlready = 25
+-- a notice of this number stands on another connection
+abbrev pub standsElsewhere : ℕ
+standsElsewhere = 25
 
 -- as many notices stand as may
 abbrev pub noRoom : ℕ

@@ -1,5 +1,7 @@
 -- The register of notices (document 01: the book): what a clerk would keep, fed the connection count and the calls' own
--- numbers. A notice is entered at the end; the order has no meaning. Assumes nothing.
+-- numbers. A new notice is entered at the end; the order has no meaning. Assumes nothing.
+use mathlib.Core.Path.{_≡_}
+use mathlib.Core.Logic.{_⊎_}
 use mathlib.Core.Bool.{Bool, false, cond, not, _&&_, _||_}
 use mathlib.Core.List.{List, [], _∷_, _++_}
 use Prim.Native.Nat.{ℕ}
@@ -18,6 +20,16 @@ pub data Call : Type 0 where
 unfoldable pub has : ℕ → List Notice → Bool
 has m [] = false
 has m (n ∷ register) = eqb (n .number) m || has m register
+
+-- whether it has one of this number for another connection
+unfoldable pub hasElsewhere : ℕ → ℕ → List Notice → Bool
+hasElsewhere m c [] = false
+hasElsewhere m c (n ∷ register) = (eqb (n .number) m && not (eqb (n .connection) c)) || hasElsewhere m c register
+
+-- the register with this delay for the notice of this number
+unfoldable pub corrected : ℕ → ℕ → List Notice → List Notice
+corrected m d [] = []
+corrected m d (n ∷ register) = cond (eqb (n .number) m) (notice m (n .connection) d) n ∷ corrected m d register
 
 -- the register with the notice of this number struck out
 unfoldable pub without : ℕ → List Notice → List Notice
@@ -41,9 +53,10 @@ registerStep C register (posting n c d) =
     cond (eqb n 0) (refuse register refusal.noNumber)
     (cond (leb C c) (refuse register refusal.unknownConnection)
     (cond (not (leb leastDelay d && leb d mostPosted)) (refuse register refusal.wrongDelay)
-    (cond (has n register) (refuse register refusal.standsAlready)
+    (cond (hasElsewhere n c register) (refuse register refusal.standsElsewhere)
+    (cond (has n register) (accept (corrected n d register) n)
     (cond (leb room (length register)) (refuse register refusal.noRoom)
-    (accept (register ++ (notice n c d ∷ [])) n)))))
+    (accept (register ++ (notice n c d ∷ [])) n))))))
 registerStep C register (withdrawal n) =
     cond (eqb n 0) (refuse register refusal.noNumber)
     (cond (not (has n register)) (refuse register refusal.notStanding)
@@ -60,3 +73,16 @@ kept C register (call ∷ calls) =
     let s = registerStep C register call in
     let k = kept C (s .register) calls in
     record { answers = s .answer ∷ k .answers; register = k .register }
+
+-- none of these answers accepts a call of number m: an accepted call answers its notice's number
+abbrev pub NoneAccepted : ℕ → List (Answer ℕ) → Type 0
+NoneAccepted m [] = Unit {0}
+NoneAccepted m (a ∷ answers) = (a ≡ accepted m → ⊥) × NoneAccepted m answers
+
+-- the posting of a notice is the latest accepted call of its number
+abbrev pub Latest : Notice → List Call → List (Answer ℕ) → Type 0
+Latest n (call ∷ calls) (a ∷ answers) =
+    Latest n calls answers
+    ⊎ ((call ≡ posting (n .number) (n .connection) (n .delay)) × (a ≡ accepted (n .number)) × NoneAccepted (n .number) answers)
+Latest n [] answers = ⊥
+Latest n (call ∷ calls) [] = ⊥

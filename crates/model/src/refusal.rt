@@ -30,8 +30,8 @@ pub const WRONG_ROW: u16 = 23;
 // The graph area is not the one of the timetable and the notices.
 pub const WRONG_GRAPH: u16 = 24;
 
-// A notice of this number stands already.
-pub const STANDS_ALREADY: u16 = 25;
+// A notice of this number stands on another connection.
+pub const STANDS_ELSEWHERE: u16 = 25;
 
 // As many notices stand as may.
 pub const NO_ROOM: u16 = 26;

@@ -1,5 +1,5 @@
 -- What the tests mean, and how to go by cases on an order. Assumes nothing.
-use mathlib.Core.Path.{_≡_, refl}
+use mathlib.Core.Path.{_≡_, refl, sym}
 use mathlib.Core.Logic.{_↔_, _⊎_, inl, inr, ⊎-elim}
 use mathlib.Core.Bool.{Bool, true, false, not, _&&_, _||_, false≢true}
 use Prim.Native.Nat.{ℕ, _<_, _≤_}
@@ -48,6 +48,10 @@ and-both false b h k = h
 pub or-cases : (p q : Bool) → p || q ≡ true → (p ≡ true) ⊎ (q ≡ true)
 or-cases true q h = inl refl
 or-cases false q h = inr h
+
+pub both-fail : (p q : Bool) → p || q ≡ false → (p ≡ false) × (q ≡ false)
+both-fail true q h = (h, absurd (false≢true (sym h)))
+both-fail false q h = (refl, h)
 
 pub or-left : (p q : Bool) → p ≡ true → p || q ≡ true
 or-left true q h = refl

@@ -184,19 +184,49 @@ fn ride(rng: &mut Rng, c: usize) -> u16 {
     }
 }
 
-/// A notice number: in `known` of a hundred cases one that stands.
-fn number(rng: &mut Rng, x: &State, known: usize, pool: usize) -> u16 {
+/// How many notices stand, as far as the area has rows for them.
+fn standing(x: &State) -> usize {
     let notices = &x.areas[NOTICES];
-    let standing = match notices.len() {
+    match notices.len() {
         1202.. => usize::from(notices.num(0)).min(200),
         _ => 0,
-    };
+    }
+}
+
+/// A notice number: in `known` of a hundred cases one that stands, the first and the last row's
+/// more often than another's.
+fn number(rng: &mut Rng, x: &State, known: usize, pool: usize) -> u16 {
+    let standing = standing(x);
     match rng.below(100) {
         0..=2 => 0,
         3..=4 => 65535,
-        n if n < known && standing > 0 => notices.num(1 + 3 * rng.below(standing)),
+        n if n < known && standing > 0 => {
+            let any = rng.below(standing);
+            let row = rng.pick(&[0, standing - 1, any, any, any, any]);
+            x.areas[NOTICES].num(1 + 3 * row)
+        }
         _ => rng.range(1, pool) as u16,
     }
+}
+
+/// A posting. Where its number stands it is mostly for the same connection, at times with the same
+/// delay.
+fn posting(rng: &mut Rng, x: &State, pool: usize) -> Call {
+    let number = number(rng, x, 25, pool);
+    let mut ride = ride(rng, x.c);
+    let mut delay = match rng.below(20) {
+        0 => rng.pick(&[0, 1441, 65535]),
+        _ => delay(rng),
+    };
+    let notices = &x.areas[NOTICES];
+    let row = (0..standing(x)).find(|row| notices.num(1 + 3 * row) == number);
+    if let Some(row) = row.filter(|_| rng.chance(60)) {
+        ride = notices.num(2 + 3 * row);
+        if rng.chance(20) {
+            delay = notices.num(3 + 3 * row);
+        }
+    }
+    Call::Post(number, ride, delay)
 }
 
 fn stop(rng: &mut Rng, s: usize) -> u16 {
@@ -227,13 +257,7 @@ pub fn call_of(operation: usize, rng: &mut Rng, x: &State, pool: usize) -> Call 
     match operation {
         CHECK => Call::Check,
         BUILD => Call::Build,
-        POST => {
-            let delay = match rng.below(20) {
-                0 => rng.pick(&[0, 1441, 65535]),
-                _ => delay(rng),
-            };
-            Call::Post(number(rng, x, 15, pool), ride(rng, c), delay)
-        }
+        POST => posting(rng, x, pool),
         WITHDRAW => Call::Withdraw(number(rng, x, 60, pool)),
         ENQUIRE => Call::Enquire(stop(rng, s), stop(rng, s), time(rng, x)),
         _ => {

@@ -117,13 +117,17 @@ impl Tester {
         let full = rng.chance(10);
         let steps = if full { 260 } else { rng.range(10, 80) };
         for i in 0..steps {
-            let call = if full && i < 230 {
+            let call = if full && i < 200 {
                 let ride = rng.below(c.max(1)) as u16;
                 Call::Post((1 + i * 7919 % 65521) as u16, ride, gen::delay(rng))
             } else {
-                let operation = rng.pick(&[
-                    POST, POST, POST, WITHDRAW, WITHDRAW, ENQUIRE, ENQUIRE, MARGIN,
-                ]);
+                let operation = if full && i < 230 {
+                    POST // with 200 standing
+                } else {
+                    rng.pick(&[
+                        POST, POST, POST, WITHDRAW, WITHDRAW, ENQUIRE, ENQUIRE, MARGIN,
+                    ])
+                };
                 call_of(operation, rng, &state, if full { 65535 } else { pool })
             };
             self.step(&mut state, call);

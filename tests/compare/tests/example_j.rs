@@ -175,6 +175,125 @@ fn largest_notice_decides() {
 }
 
 #[test]
+fn posted_again() {
+    each(|side| {
+        let mut d = Desk::j(side);
+        let lines = [
+            d.p(7, 1, 10),
+            d.p(7, 1, 12),
+            d.q(0, 2, 595),
+            d.p(7, 0, 3),
+            d.w(7),
+            d.q(0, 2, 595),
+        ];
+        let expected = "posted 7\nposted 7\narrives 642 by 0 4\nno 25 at 0\nwithdrawn 7\n\
+                        arrives 640 by 0 1";
+        assert_eq!(lines.join("\n"), expected);
+        // Connection 4 arrives at 651; connection 1 at 650, 652 and 641.
+        let lines = [
+            d.p(3, 4, 9),
+            d.p(7, 1, 10),
+            d.q(0, 2, 595),
+            d.p(7, 1, 12),
+            d.q(0, 2, 595),
+            d.p(7, 1, 1),
+            d.q(0, 2, 595),
+        ];
+        let expected = "posted 3\nposted 7\narrives 650 by 0 1\nposted 7\narrives 651 by 0 4\n\
+                        posted 7\narrives 641 by 0 1";
+        assert_eq!(lines.join("\n"), expected);
+        let mut notices = vec![2, 3, 4, 9, 7, 1, 1];
+        notices.resize(601, 0);
+        assert_eq!(nums(&d.notices), notices);
+        let graph = [
+            600, 620, 626, 641, 622, 650, 655, 690, 639, 651, // times
+            65535, 4, 1, 65535, 65535, // waiting
+            1, 3, 3, 65535, 3, // transfers
+            0, 2, 3, // first departures
+        ];
+        assert_eq!(nums(&d.graph), graph);
+        let before = (d.notices.clone(), d.graph.clone());
+        assert_eq!(d.p(7, 1, 1), "posted 7");
+        for (connection, delay, refusal) in [(5, 0, 13), (1, 0, 14), (2, 1441, 14), (2, 1, 25)] {
+            assert_eq!(d.p(7, connection, delay), format!("no {refusal} at 0"));
+        }
+        assert_eq!((d.notices, d.graph), before);
+    });
+}
+
+#[test]
+fn posted_again_beside_another_of_the_connection() {
+    each(|side| {
+        let mut d = Desk::j(side);
+        for (number, delay, departure) in [
+            (3, 6, 606),
+            (7, 20, 620),
+            (7, 4, 606),
+            (3, 2, 604),
+            (3, 9, 609),
+            (7, 9, 609),
+            (3, 1, 609),
+            (7, 10, 610),
+        ] {
+            assert_eq!(d.p(number, 0, delay), format!("posted {number}"));
+            assert_eq!(d.times(0), [departure, departure + 20]);
+        }
+        assert_eq!(nums(&d.notices)[..8], [2, 3, 0, 1, 7, 0, 10, 0]);
+        assert_eq!(d.w(7), "withdrawn 7");
+        assert_eq!(d.times(0), [601, 621]);
+    });
+}
+
+#[test]
+fn posted_again_with_200_standing() {
+    const NONE: u16 = 65535;
+    each(|side| {
+        let mut d = Desk::j(side);
+        let mut rows: Vec<[u16; 3]> = (1..=200).map(|n| [n, n % 5, n]).collect();
+        for [number, connection, delay] in rows.clone() {
+            assert_eq!(d.p(number, connection, delay), format!("posted {number}"));
+        }
+        // The last row, the first, and one in the middle; what changes of the graph: the times of
+        // connections 0 and 1, the waiting and the transfer entries.
+        let again = [
+            (
+                [200, 0, 1],
+                [795, 815, 821, 836],
+                [NONE, 4, 1, NONE, NONE],
+                [1, 3, 3, NONE, 3],
+            ),
+            (
+                [1, 1, 300],
+                [795, 815, 925, 940],
+                [NONE, NONE, 4, NONE, 1],
+                [4, NONE, 3, NONE, 3],
+            ),
+            (
+                [100, 0, 250],
+                [850, 870, 925, 940],
+                [NONE, NONE, 4, NONE, 1],
+                [1, NONE, 3, NONE, 3],
+            ),
+        ];
+        for ([number, connection, delay], times, waiting, transfers) in again {
+            assert_eq!(d.p(number, connection, delay), format!("posted {number}"));
+            rows[usize::from(number) - 1][2] = delay;
+            assert_eq!(nums(&d.notices), [&[200], rows.as_flattened()].concat());
+            let others = [819, 847, 853, 888, 829, 841];
+            let graph = [&times[..], &others, &waiting, &transfers, &[0, 2, 3]];
+            assert_eq!(nums(&d.graph), graph.concat());
+        }
+        let before = (d.notices.clone(), d.graph.clone());
+        for [number, connection, delay] in rows {
+            assert_eq!(d.p(number, connection, delay), format!("posted {number}"));
+            assert_eq!(d.p(number, (connection + 1) % 5, delay), "no 25 at 0");
+        }
+        assert_eq!(d.p(201, 0, 1), "no 26 at 0");
+        assert_eq!((d.notices, d.graph), before);
+    });
+}
+
+#[test]
 fn last_minute_and_too_late() {
     each(|side| {
         let mut d = Desk::j(side);
@@ -217,7 +336,6 @@ fn limits() {
             assert_eq!(d.p(number, number % 5, number), format!("posted {number}"));
         }
         assert_eq!(d.p(201, 0, 1), "no 26 at 0");
-        assert_eq!(d.p(200, 0, 1), "no 25 at 0");
         assert_eq!(d.w(100), "withdrawn 100");
         assert_eq!(d.p(201, 0, 1), "posted 201");
         let mut d = Desk::open(side, &[0], &[]);

@@ -1,6 +1,6 @@
 -- `calls::note_call` meets its contract. Assumes nothing.
 use Rattle.model.specs.Notices.{rowsOf}
-use Rattle.model.proofs.Asked.{posting-fits, withdrawal-stands}
+use Rattle.model.proofs.Asked.{posting-formed, withdrawal-stands}
 use borrow.Author.Needs.{needs}
 use Rattle.calls.proofs.note_call.Statement.{statement}
 use Rattle.calls.proofs.note_call.Tie as tie
@@ -12,7 +12,7 @@ enter-requires : tie.Need-enter-requires
 enter-requires c κs =
     let s = c .before .before .before .before .before in
     let k = c .before .before .call .given in
-    ((s .args .n, s .pre .0), posting-fits (s .args .n) (rowsOf (s .args .notices .now)) (k .0 .0) (k .0 .1 .0) (k .0 .1 .1 .0) (rw (k .1) at (s .pre .1)) .2)
+    ((s .args .n, s .pre .0), posting-formed (s .args .n) (rowsOf (s .args .notices .now)) (k .0 .0) (k .0 .1 .0) (k .0 .1 .1 .0) (s .pre .0 .rows) (rw (k .1) at (s .pre .1)) .fits)
 
 enum-known-call-2 : tie.Need-enum-known-call-2
 enum-known-call-2 c = search needs

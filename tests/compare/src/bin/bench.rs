@@ -1,9 +1,9 @@
 //! bench [SAMPLES]: microseconds of the library and of the fast implementation, interleaved: calls
 //! with one timetable, then with sixteen in turn; the same with all departures in one minute.
 //! bench one SHAPE OP C NOTICES SIDE REPEATS: one operation alone, for instruction counts; the
-//! difference of two repeat counts is the cost of the repeats between. Before each posting or
-//! withdrawal both areas are copied back; OP `restore` is that copying alone. SHAPE is `day` or
-//! `dense`, SIDE `library` or `rust`.
+//! difference of two repeat counts is the cost of the repeats between. OP `correct` is a posting of a
+//! number that stands. Before each posting or withdrawal both areas are copied back; OP `restore` is
+//! that copying alone. SHAPE is `day` or `dense`, SIDE `library` or `rust`.
 //! bench operations: their names.
 
 use compare::calls::{Call, Conversion, Side, BUILD, CHECK, ENQUIRE, EXPORT, IMPORT, MARGIN};
@@ -332,14 +332,14 @@ fn one(
     repeats: usize,
 ) -> bool {
     let place = OPERATIONS.iter().position(|o| o.name == op);
-    if place.is_none() && op != "restore" {
+    if place.is_none() && !matches!(op, "correct" | "restore") {
         return false;
     }
-    let restores = matches!(op, "post" | "withdraw" | "restore");
+    let restores = matches!(op, "post" | "correct" | "withdraw" | "restore");
     let mut x = Setup::alone(shape, c, standing);
     let mut rng = Rng(99);
-    if op == "withdraw" {
-        let posting = x.posting(&mut rng);
+    let posted = matches!(op, "correct" | "withdraw").then(|| x.posting(&mut rng));
+    if let Some(posting) = posted {
         x.call(&FAST, posting);
     }
     let start = x.base.clone();
@@ -349,7 +349,10 @@ fn one(
             x.base.graph.copy_from_slice(&start.graph);
             black_box(&mut x.base);
         }
-        if let Some(place) = place {
+        if let ("correct", Some(Call::Post(number, ride, _))) = (op, posted) {
+            let delay = rng.range(1, 360) as u16;
+            x.call(side, Call::Post(number, ride, delay));
+        } else if let Some(place) = place {
             let task = x.draw(place, &mut rng);
             x.run(side, task);
         }

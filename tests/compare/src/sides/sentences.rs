@@ -411,17 +411,16 @@ fn refused_or(
             return Err((17, 0));
         }
     }
-    let stands = |number: usize| list.iter().any(|n| n.number == number);
-    if let Call::Post(number, ..) = call {
-        if stands(number.into()) {
-            return Err((25, 0));
-        }
-        if list.len() == 200 {
-            return Err((26, 0));
+    let noted = |number: u16| list.iter().find(|n| n.number == usize::from(number));
+    if let Call::Post(number, ride, _) = call {
+        match noted(number) {
+            Some(n) if n.ride != usize::from(ride) => return Err((25, 0)),
+            None if list.len() == 200 => return Err((26, 0)),
+            _ => {}
         }
     }
     if let Call::Withdraw(number) = call {
-        if !stands(number.into()) {
+        if noted(number).is_none() {
             return Err((27, 0));
         }
     }
@@ -443,18 +442,24 @@ fn answer(file: &[u8], areas: &mut Lent, call: Call, lists: Lists) -> Result<i64
             Ok(counts(&t))
         }
         Call::Post(number, ..) | Call::Withdraw(number) => {
+            let number = usize::from(number);
             if let Call::Post(_, ride, delay) = call {
-                list.push(Notice {
-                    number: number.into(),
-                    ride: ride.into(),
-                    delay: delay.into(),
-                });
+                let (ride, delay) = (usize::from(ride), usize::from(delay));
+                match list.iter_mut().find(|n| n.number == number) {
+                    // Posted again: its delay replaces the old one.
+                    Some(n) => n.delay = delay,
+                    None => list.push(Notice {
+                        number,
+                        ride,
+                        delay,
+                    }),
+                }
             } else {
-                list.retain(|n| n.number != usize::from(number));
+                list.retain(|n| n.number != number);
             }
             put(areas[NOTICES], &notice_area(&list));
             put(areas[GRAPH], &graph(&t, &list));
-            Ok(number.into())
+            Ok(number as i64)
         }
         Call::Enquire(from, to, time) => {
             let q = Enquiry {
