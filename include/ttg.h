@@ -61,14 +61,16 @@ extern "C" {
 /* The place of refusal 31. Rows, and the bytes of an export, can be more than 65535. */
 #define TTG_ROW(answer) ((size_t)TTG_VALUE(answer))
 
-/* The values of accepted calls: of a check or a build; of a posting or a withdrawal; of an enquiry; of a margin; of an import or an
- * export. */
+/* The values of accepted calls: of a check or a build; of a posting or a withdrawal; of an enquiry; of a margin; of why; of an import or
+ * an export. */
 #define TTG_STOPS(answer) ((unsigned)(TTG_VALUE(answer) % 65536))
 #define TTG_RIDES(answer) ((unsigned)(TTG_VALUE(answer) / 65536))
 #define TTG_NOTICE(answer) ((unsigned)TTG_VALUE(answer))
 #define TTG_ARRIVAL(answer) ((unsigned)(TTG_VALUE(answer) % 65536))
 #define TTG_COUNT(answer) ((unsigned)(TTG_VALUE(answer) / 65536))
 #define TTG_MINUTES(answer) ((int)((int64_t)(answer) / 65536))
+#define TTG_DELAY(answer) ((unsigned)(TTG_VALUE(answer) % 65536))
+#define TTG_CAUSE(answer) ((unsigned)(TTG_VALUE(answer) / 65536))
 #define TTG_BYTES(answer) ((size_t)TTG_VALUE(answer))
 
 /* The number at place `index` of an area. */
@@ -135,6 +137,11 @@ uint64_t ttg_enquire(const uint8_t *file, size_t file_len, const uint8_t *notice
  * answer is negative only where the margin is. */
 int64_t ttg_margin(const uint8_t *file, size_t file_len, const uint8_t *notices, size_t notices_len, const uint8_t *graph,
                    size_t graph_len, uint16_t ride, uint16_t next);
+
+/* Tells why ride `ride` is late: its own delay and the notice that gives it. Accepted: TTG_DELAY, the largest delay of the notices that
+ * stand for this ride, and TTG_CAUSE, the lowest number of those that have it; 0 and 0 if none stands. A delay that the ride before it in
+ * its trip passes on is not told. */
+uint64_t ttg_why(const uint8_t *file, size_t file_len, const uint8_t *notices, size_t notices_len, uint16_t ride);
 
 /* Makes the timetable file of a stop_times.txt. `text` has the columns trip_id, arrival_time, departure_time, stop_id, stop_sequence in this
  * order, without quotes, and each of its lines ends with a newline; docs/PANEL.md says how they are to be written. `change` has the change

@@ -35,6 +35,7 @@ CYCLE = [
     (b"p 7 1 10\n", b"posted 7\n"),
     (ASK, LATER),
     (b"m 0 4\n", b"margin 5\n"),
+    (b"why 1\n", b"why 1 delay 10 notice 7\n"),
     (b"w 7\n", b"withdrawn 7\n"),
     (b"w 7\n", b"no 27 at 0\n"),
     (b"w  7\n", UNREADABLE),

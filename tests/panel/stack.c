@@ -51,6 +51,7 @@ static void *correct(void *unused) { answer = ttg_post(BOTH, NOTICES, 1, 1440); 
 static void *withdraw(void *unused) { answer = ttg_withdraw(BOTH, NOTICES); return unused; }
 static void *enquire(void *unused) { answer = ttg_enquire(BOTH, work, sizeof work, journey, sizeof journey, 0, 5, 0); return unused; }
 static void *margin(void *unused) { answer = (uint64_t)ttg_margin(BOTH, 0, 1); return unused; }
+static void *why(void *unused) { answer = ttg_why(file, sizeof file, notices, sizeof notices, 1); return unused; }
 
 static void *export(void *unused) { answer = ttg_export(file, sizeof file, text, sizeof text); return unused; }
 static void *import(void *unused)
@@ -79,7 +80,7 @@ int main(void)
 {
     static const struct { const char *name; void *(*call)(void *); } calls[] = {
         { "check", check }, { "build", build }, { "post", post }, { "correct", correct }, { "withdraw", withdraw }, { "enquire", enquire },
-        { "margin", margin }, { "export", export }, { "import", import },
+        { "margin", margin }, { "why", why }, { "export", export }, { "import", import },
     };
     unsigned passed = 0, failed = 0;
     make_file();

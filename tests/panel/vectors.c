@@ -18,6 +18,7 @@
  *   W n      withdraws notice n
  *   Q a b t  enquires from stop a to stop b at time t
  *   M c d    the margin of the change from connection c to connection d
+ *   D c      why connection c is late: its own delay and the notice that gives it
  * On area i, whole:
  *   A i L    its first L numbers are lent from now on
  *   S i k v  number k becomes v
@@ -225,6 +226,14 @@ static bool margin(const uint16_t *x)
     return true;
 }
 
+static bool why(const uint16_t *x)
+{
+    uint64_t a = ttg_why(FILE_BYTES, LENT(NOTICES), x[0]);
+    if (!refused(a))
+        printf("delay %" PRIu64 " notice %" PRIu64 "\n", low(a), high(a));
+    return true;
+}
+
 /* ---- The areas ---- */
 
 static bool lend(const uint16_t *x)
@@ -280,7 +289,8 @@ static bool show(const uint16_t *x)
 static const struct command { char letter; int numbers; bool (*obey)(const uint16_t *); } commands[] = {
     {'f', 2, fresh}, {'j', 0, example_j}, {'l', 1, cut}, {'b', 2, set_byte}, {'w', 2, set_number}, {'t', 2, set_transfer_time},
     {'k', 6, set_connection}, {'c', 0, check}, {'B', 0, build}, {'P', 3, post}, {'N', 2, post_many}, {'W', 1, withdraw},
-    {'Q', 3, enquire}, {'M', 2, margin}, {'A', 2, lend}, {'S', 3, set}, {'F', 2, fill}, {'X', 2, show}, {'Y', 3, show_part},
+    {'Q', 3, enquire}, {'M', 2, margin}, {'D', 1, why}, {'A', 2, lend}, {'S', 3, set}, {'F', 2, fill}, {'X', 2, show},
+    {'Y', 3, show_part},
 };
 
 static bool is_digit(char c) { return c >= '0' && c <= '9'; }

@@ -4,6 +4,7 @@ use Prim.Native.Nat.{ℕ, _+_, _*_}
 use lib.IntN.{ℤ, pos, _*ℤ_}
 use Rattle.timetable.specs.Answers.{Answer, accepted, refused}
 use Rattle.timetable.specs.Check.{Counts}
+use Rattle.model.specs.declared.PrimaryDelay.{PrimaryDelay}
 use Rattle.model.specs.Operations.{Arrival}
 
 -- how many values a number of 16 bits has
@@ -33,3 +34,8 @@ codedArrival (refused n p) = pair n p
 abbrev pub codedMargin : Answer ℤ → ℤ
 codedMargin (accepted minutes) = pos numberSize *ℤ minutes
 codedMargin (refused n p) = pos (pair n p)
+
+-- the answer of why: the delay and the notice that gives it
+abbrev pub codedPrimary : Answer PrimaryDelay → ℕ
+codedPrimary (accepted primary) = pair 0 (pair (primary .delay) (primary .notice))
+codedPrimary (refused n p) = pair n p

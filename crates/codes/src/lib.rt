@@ -6,7 +6,9 @@ ghost use Rattle.timetable.specs.Check.{toldCounts};
 ghost use Rattle.graph.specs.Answers.{toldNumber};
 ghost use Rattle.journeys.specs.Reading.{toldArrival};
 ghost use Rattle.margins.specs.Margin.{toldMargin};
-ghost use Rattle.codes.specs.Encoded.{pair, coded, codedCounts, codedArrival, codedMargin};
+ghost use Rattle.causes.specs.Cause.{toldPrimary};
+ghost use Rattle.codes.specs.Encoded.{pair, coded, codedCounts, codedArrival, codedMargin, codedPrimary};
+use causes::Explained;
 use graph::Noted;
 use journeys::Enquired;
 use margins::Margined;
@@ -82,5 +84,15 @@ pub fn code_margin(margined: Margined) -> i64
     match margined {
         Margined::Minutes(minutes) => SIGNED_SIZE * minutes as i64,
         Margined::Refused(number, place) => answer_of(number, place, 0) as i64,
+    }
+}
+
+// The answer of why.
+pub fn code_primary(explained: Explained) -> u64
+    ensures { λ r. ⌜ r ≡ codedPrimary (toldPrimary explained) ⌝ }
+{
+    match explained {
+        Explained::Primary(primary) => answer_of(0, primary.delay, primary.notice),
+        Explained::Refused(number, place) => answer_of(number, place, 0),
     }
 }

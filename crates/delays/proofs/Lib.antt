@@ -1,2 +1,2 @@
-pub mod Raising
+pub mod Walk
 pub mod LentRows

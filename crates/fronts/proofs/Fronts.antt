@@ -25,7 +25,7 @@ pub connections-cover : (f area : List ℕ) → fileVerdict f ≡ Passed → Cov
 connections-cover f area h = let t = accepted-iff f .0 h in omega (arith, t .few)
 
 -- an area read into numbers for its front: the front
-reads-front : (k : ℕ) (bytes a : List ℕ) → length a ≡ frontLength k bytes → over (numbersOf bytes) a ≡ take k (numbersOf bytes)
+pub reads-front : (k : ℕ) (bytes a : List ℕ) → length a ≡ frontLength k bytes → over (numbersOf bytes) a ≡ take k (numbersOf bytes)
 reads-front k bytes a h =
     let l : length a ≤ length (numbersOf bytes) = omega (arith, length-numbers bytes) in
     over-take (numbersOf bytes) a l ∙ front-read k bytes (length a) h

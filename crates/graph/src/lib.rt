@@ -17,9 +17,10 @@ use calls::Call;
 use timetable::Checked;
 use timetable::Verdict;
 
-// The check of a file, and building.
+// The check of a file, building, and why a connection is late.
 pub use acceptance::check;
 pub use building::build;
+pub use causes::why;
 
 // The checks of both areas, alone and after the file's.
 pub use checks::contents_verdict;

@@ -1,5 +1,5 @@
-// Labels and numbers written: bytes into an area from a place on, and lines of one number and of two. A line stands at the front of out,
-// and its length is the answer.
+// Labels with their numbers, and lines of one number and of two. What is put stands in out from a place on, and the place after it is the
+// answer; a line that is written stands at the front of out, and its length is the answer.
 ghost use Prim.Native.Nat.{_+_, _≤_};
 ghost use lib.ListN.{length};
 ghost use Rattle.decimals.specs.Written.{Written};
@@ -38,12 +38,28 @@ pub fn write_number(label: &[u8], number: u32, out: &mut [u8]) -> usize
     put_text(b"\n", out, next)
 }
 
+// A line of two numbers, each with its label, into out from a place on; the place after it.
+pub fn put_pair(
+    label: &[u8],
+    number: u16,
+    second: &[u8],
+    other: u16,
+    out: &mut [u8],
+    at: usize,
+) -> usize
+    requires { ⌜ at + length (pairLine (now label) number (now second) other) ≤ length (now out) ⌝ }
+    ensures { λ r. ⌜ Written r (now (out .exit)) (now (out .entry)) at
+        (pairLine (now (label .entry)) number (now (second .entry)) other) ⌝ }
+{
+    let next = put_labelled(label, number as u32, out, at);
+    let last = put_labelled(second, other as u32, out, next);
+    put_text(b"\n", out, last)
+}
+
 // A line of two numbers, each with its label.
 pub fn write_pair(label: &[u8], number: u16, second: &[u8], other: u16, out: &mut [u8]) -> usize
     requires { ⌜ length (pairLine (now label) number (now second) other) ≤ length (now out) ⌝ }
     ensures { λ r. ⌜ LineIs r (now (out .exit)) (now (out .entry)) (pairLine (now (label .entry)) number (now (second .entry)) other) ⌝ }
 {
-    let next = put_labelled(label, number as u32, out, 0);
-    let last = put_labelled(second, other as u32, out, next);
-    put_text(b"\n", out, last)
+    put_pair(label, number, second, other, out, 0)
 }

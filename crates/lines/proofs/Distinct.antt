@@ -11,11 +11,11 @@ use lib.IntN.{ℤ, pos, negsuc, natAbs}
 use lib.ListN.{length, getD, drop}
 use Rattle.decimals.specs.Bytes.{digitZero, digitNine}
 use Rattle.decimals.specs.Decimal.{isDigit, allDigits, valueAfter, valueOf, decimalOf}
-use Rattle.labels.specs.Labels.{lineEnd, labelled}
+use Rattle.labels.specs.Labels.{lineEnd, labelled, pairLine}
 use Rattle.arrivals.specs.Arrivals.{byLabel, journeyText, arrivesLine}
-use Rattle.lines.specs.Lines.{connectionsLabel, placeLabel}
-use Rattle.lines.specs.Lines.{countsLine, postedLine, withdrawnLine, refusalLine, marginLine}
-use Rattle.lines.specs.Lines.{Line, counts, arrives, posted, withdrawn, refusal, margin, textOf}
+use Rattle.lines.specs.Lines.{connectionsLabel, placeLabel, delayLabel, noticeLabel}
+use Rattle.lines.specs.Lines.{countsLine, postedLine, withdrawnLine, refusalLine, marginLine, whyLine}
+use Rattle.lines.specs.Lines.{Line, counts, arrives, posted, withdrawn, refusal, margin, why, textOf}
 use Rattle.decimals.proofs.Digits.{digits-only, digits-some, value-is}
 use Rattle.timetable.proofs.Tests.{and-left, and-right}
 
@@ -78,13 +78,14 @@ abbrev signed : Bool → ℕ → ℤ
 signed true n = negsuc (n - 1)
 signed false n = pos n
 
--- the answer of a first letter, a byte where the sign may be, and numbers
+-- the answer of a first letter, a byte where the sign may be, and numbers. A withdrawal and a why have one letter: the first has one
+-- number, the second three
 abbrev answerOf : ℕ → ℕ → List ℕ → Line
 answerOf letter sign ns =
     cond (eqb letter 115) (counts (getD ns 0 0) (getD ns 1 0))
     (cond (eqb letter 97) (arrives (getD ns 0 0) (drop 1 ns))
     (cond (eqb letter 112) (posted (getD ns 0 0))
-    (cond (eqb letter 119) (withdrawn (getD ns 0 0))
+    (cond (eqb letter 119) (cond (eqb (length ns) 1) (withdrawn (getD ns 0 0)) (why (getD ns 0 0) (getD ns 1 0) (getD ns 2 0)))
     (cond (eqb letter 110) (refusal (getD ns 0 0) (getD ns 1 0))
     (margin (signed (eqb sign 45) (getD ns 0 0)))))))
 
@@ -125,9 +126,17 @@ unfolding marginLine numbersIn
 margin-in (pos n) = number-in n 10 [] refl
 margin-in (negsuc n) = number-in (suc n) 10 [] refl
 
+why-in : (c d n : ℕ) → numbersIn false 0 (whyLine c d n) ≡ c ∷ d ∷ n ∷ []
+unfolding whyLine numbersIn
+why-in c d n =
+    number-in c 32 (drop 1 (pairLine delayLabel d noticeLabel n)) refl
+    ∙ ap (λ (ns : List ℕ). c ∷ ns)
+    (followed d (labelled noticeLabel n) lineEnd (number-in d 32 (drop 1 (labelled noticeLabel n) ++ lineEnd) refl)
+    ∙ ap (λ (ns : List ℕ). d ∷ ns) (number-in n 10 [] refl))
+
 -- an answer can be told from its line
 line-told : (x : Line) → lineOf (textOf x) ≡ x
-unfolding textOf countsLine arrivesLine postedLine withdrawnLine refusalLine marginLine
+unfolding textOf countsLine arrivesLine postedLine withdrawnLine refusalLine marginLine whyLine
 line-told (counts s c) = ap (answerOf 115 0) (counts-in s c)
 line-told (arrives t cs) = ap (answerOf 97 0) (arrives-in t cs)
 line-told (posted n) = ap (answerOf 112 0) (posted-in n)
@@ -136,6 +145,7 @@ line-told (refusal n p) = ap (answerOf 110 0) (refusal-in n p)
 line-told (margin (pos n)) =
     ap (answerOf 109 (getD (decimalOf n ++ lineEnd) 0 0)) (margin-in (pos n)) ∙ ap (λ (b : Bool). margin (signed b n)) (no-minus n lineEnd)
 line-told (margin (negsuc n)) = ap (answerOf 109 45) (margin-in (negsuc n)) ∙ ap (λ (m : ℕ). margin (negsuc m)) (omega arith)
+line-told (why c d n) = ap (answerOf 119 0) (why-in c d n)
 
 -- different answers have different lines
 pub text-injective : (x y : Line) → textOf x ≡ textOf y → x ≡ y

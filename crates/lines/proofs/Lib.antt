@@ -1,3 +1,4 @@
 pub mod Signed
+pub mod Lengths
 pub mod Distinct
 pub mod Instances

@@ -1,8 +1,8 @@
 -- The answer lines, each with the newline that ends it. Assumes nothing.
-use mathlib.Core.List.{List, [], _∷_}
+use mathlib.Core.List.{List, [], _∷_, _++_}
 use Prim.Native.Nat.{ℕ, suc}
 use lib.IntN.{ℤ, pos, negsuc}
-use Rattle.labels.specs.Labels.{numberLine, pairLine}
+use Rattle.labels.specs.Labels.{labelled, numberLine, pairLine}
 use Rattle.arrivals.specs.Arrivals.{arrivesLine}
 
 -- "stops "
@@ -37,6 +37,18 @@ marginLabel = 109 ∷ 97 ∷ 114 ∷ 103 ∷ 105 ∷ 110 ∷ 32 ∷ []
 abbrev pub minusLabel : List ℕ
 minusLabel = 109 ∷ 97 ∷ 114 ∷ 103 ∷ 105 ∷ 110 ∷ 32 ∷ 45 ∷ []
 
+-- "why "
+abbrev pub whyLabel : List ℕ
+whyLabel = 119 ∷ 104 ∷ 121 ∷ 32 ∷ []
+
+-- " delay "
+abbrev pub delayLabel : List ℕ
+delayLabel = 32 ∷ 100 ∷ 101 ∷ 108 ∷ 97 ∷ 121 ∷ 32 ∷ []
+
+-- " notice "
+abbrev pub noticeLabel : List ℕ
+noticeLabel = 32 ∷ 110 ∷ 111 ∷ 116 ∷ 105 ∷ 99 ∷ 101 ∷ 32 ∷ []
+
 -- stops 3 rides 5
 unfoldable pub countsLine : ℕ → ℕ → List ℕ
 countsLine stops connections = pairLine stopsLabel stops connectionsLabel connections
@@ -58,6 +70,10 @@ unfoldable pub marginLine : ℤ → List ℕ
 marginLine (pos n) = numberLine marginLabel n
 marginLine (negsuc n) = numberLine minusLabel (suc n)
 
+-- why 1 delay 10 notice 7
+unfoldable pub whyLine : ℕ → ℕ → ℕ → List ℕ
+whyLine connection delay notice = labelled whyLabel connection ++ pairLine delayLabel delay noticeLabel notice
+
 -- an answer
 pub data Line : Type 0 where
   counts : ℕ → ℕ → Line
@@ -66,6 +82,7 @@ pub data Line : Type 0 where
   withdrawn : ℕ → Line
   refusal : ℕ → ℕ → Line
   margin : ℤ → Line
+  why : ℕ → ℕ → ℕ → Line
 
 -- the line of an answer
 unfoldable pub textOf : Line → List ℕ
@@ -75,3 +92,4 @@ textOf (posted number) = postedLine number
 textOf (withdrawn number) = withdrawnLine number
 textOf (refusal number place) = refusalLine number place
 textOf (margin minutes) = marginLine minutes
+textOf (why connection delay notice) = whyLine connection delay notice

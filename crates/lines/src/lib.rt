@@ -4,7 +4,7 @@ ghost use Prim.Native.Nat.{_≤_};
 ghost use lib.IntN.{natAbs};
 ghost use lib.ListN.{length};
 ghost use Rattle.labels.specs.Room.{lineRoom, LineIs};
-ghost use Rattle.lines.specs.Lines.{countsLine, postedLine, withdrawnLine, refusalLine, marginLine};
+ghost use Rattle.lines.specs.Lines.{countsLine, postedLine, withdrawnLine, refusalLine, marginLine, whyLine};
 
 // The counts of a timetable.
 pub fn write_counts(stops: u16, connections: u16, out: &mut [u8]) -> usize
@@ -59,4 +59,13 @@ pub fn write_margin(minutes: i32, out: &mut [u8]) -> usize
         return labels::write_number(b"margin -", number, out);
     }
     labels::write_number(b"margin ", number, out)
+}
+
+// A connection's primary delay and the notice that gives it.
+pub fn write_why(connection: u16, delay: u16, notice: u16, out: &mut [u8]) -> usize
+    requires { ⌜ lineRoom ≤ length (now out) ⌝ }
+    ensures { λ r. ⌜ LineIs r (now (out .exit)) (now (out .entry)) (whyLine connection delay notice) ⌝ }
+{
+    let next = labels::put_labelled(b"why ", connection as u32, out, 0);
+    labels::put_pair(b" delay ", delay, b" notice ", notice, out, next)
 }

@@ -10,6 +10,7 @@ pub enum Command {
     Withdraw(u16),
     Enquire(u16, u16, u16),
     Margin(u16, u16),
+    Why(u16),
     Unreadable,
 }
 
@@ -65,6 +66,8 @@ pub fn asked(word: &[u8], numbers: Numbers) -> Command
         Numbers::One(a) => {
             if same(word, b"w") {
                 Command::Withdraw(a)
+            } else if same(word, b"why") {
+                Command::Why(a)
             } else {
                 Command::Unreadable
             }

@@ -11,7 +11,8 @@ use Rattle.timetable.specs.File.{connections, transferTime, trip, from, to, sch
 use Rattle.timetable.specs.Check.{headerVerdict, stopVerdict, wrongStops, wrongTrip, wrongTimes, wrongJoin, connectionVerdict, fileVerdict}
 use Rattle.model.specs.Least.{none, leastBelow, tab}
 use Rattle.model.specs.Notices.{Notice, notice, room, noticesLength, flat, cut, areaOf, rowsOf, some, stands, standsElsewhere, struck, inserted, entered, standsRight, unusedRight, rowsFrom, rowsVerdict}
-use Rattle.model.specs.Times.{primaryDelay, expectedDeparture, expectedArrival, networkOf}
+use Rattle.model.specs.declared.PrimaryDelay.{PrimaryDelay}
+use Rattle.model.specs.Times.{prevails, withNotice, primaryDelay, expectedDeparture, expectedArrival, networkOf}
 use Rattle.model.specs.Graph.{firstOn, waiting, transferTo, firstDeparture, times, graphOf}
 use Rattle.model.specs.Journeys.{canBeFirst, canFollow}
 use Rattle.model.specs.Predecessors.{choose, rounds, predecessors, follow, arriving, lastTo, nowhere, journeyIn}
@@ -19,7 +20,7 @@ use Rattle.model.specs.Margin.{marginOf}
 use Rattle.model.specs.Day.{dayOf, lent}
 use Rattle.model.specs.Drawn.{graphLength, graphFor, same}
 use Rattle.model.specs.Parts.{partVerdict}
-use Rattle.model.specs.Operations.{Outcome, written, built, changed, posted, Enquiry, enquired, margined}
+use Rattle.model.specs.Operations.{Outcome, written, built, changed, posted, Enquiry, enquired, margined, whyVerdict, explained}
 use Rattle.model.specs.Register.{Call, posting, withdrawal, has, hasElsewhere, corrected, without, registerStep, kept}
 use Rattle.model.specs.Runs.{Run, ran, runOf, registerOf}
 use Rattle.model.specs.Example.{exampleJ, fileOf, inBytes}
@@ -56,6 +57,19 @@ spare (refused n p) = n ∷ p ∷ []
 
 unfoldable pub marginIn : List ℕ → List Call → ℕ → ℕ → List ℕ
 marginIn f calls c d = spare (margined (dayOf f) (run f calls .areas) c d)
+
+-- why as numbers: 0, the delay and the notice; or the refusal's number and place
+unfoldable pub whyTold : Answer PrimaryDelay → List ℕ
+whyTold (accepted p) = 0 ∷ p .delay ∷ p .notice ∷ []
+whyTold (refused n p) = n ∷ p ∷ []
+
+unfoldable pub whyIn : List ℕ → List Call → ℕ → List ℕ
+whyIn f calls c = whyTold (explained f (run f calls .areas .notices) c)
+
+-- why of each of so many connections, the last first
+unfoldable pub whyEach : List ℕ → List Call → ℕ → List ℕ
+whyEach f calls zero = []
+whyEach f calls (suc c) = whyIn f calls c ++ whyEach f calls c
 
 -- whether each of these tests passes
 unfoldable pub tests : List Bool → List ℕ
@@ -478,6 +492,37 @@ cases =
     -- number 201 finds no room; number 77 stands on another connection
     (fullTold (withFull narrow 201 0 5), 26 ∷ 0 ∷ 200 ∷ flat (notices 1 200)) ∷
     (fullTold (withFull narrow 77 1 5), 25 ∷ 0 ∷ 200 ∷ flat (notices 1 200)) ∷
+    -- why: no notice stands
+    (whyEach trips [] 4, 0 ∷ 0 ∷ 0 ∷ 0 ∷ 0 ∷ 0 ∷ 0 ∷ 0 ∷ 0 ∷ 0 ∷ 0 ∷ 0 ∷ []) ∷
+    -- 0 is late by 8 through notice 1, and passes 3 and 1 minutes on, which are not told of 1 and 2
+    (whyEach trips (posting 1 0 8 ∷ []) 4, 0 ∷ 0 ∷ 0 ∷ 0 ∷ 0 ∷ 0 ∷ 0 ∷ 0 ∷ 0 ∷ 0 ∷ 8 ∷ 1 ∷ []) ∷
+    -- 3 minutes passed on and 2 of its own: its own 2 are told
+    (whyIn trips (posting 1 0 8 ∷ posting 2 1 2 ∷ []) 1, 0 ∷ 2 ∷ 2 ∷ []) ∷
+    -- of 9 and 4 minutes the 9, in the lower row or the higher, posted first or last
+    (whyIn trips (posting 5 1 9 ∷ posting 6 1 4 ∷ []) 1, 0 ∷ 9 ∷ 5 ∷ []) ∷
+    (whyIn trips (posting 5 1 4 ∷ posting 6 1 9 ∷ []) 1, 0 ∷ 9 ∷ 6 ∷ []) ∷
+    (whyIn trips (posting 6 1 9 ∷ posting 5 1 4 ∷ []) 1, 0 ∷ 9 ∷ 6 ∷ []) ∷
+    -- of 7 minutes twice the lower number, whichever was posted first; a lower number of fewer minutes or of another connection is nothing
+    (whyIn trips (posting 6 1 7 ∷ posting 4 1 7 ∷ []) 1, 0 ∷ 7 ∷ 4 ∷ []) ∷
+    (whyIn trips (posting 4 1 7 ∷ posting 6 1 7 ∷ []) 1, 0 ∷ 7 ∷ 4 ∷ []) ∷
+    (whyIn trips (posting 4 1 7 ∷ posting 6 1 7 ∷ posting 2 1 6 ∷ posting 1 0 7 ∷ posting 3 2 9 ∷ []) 1, 0 ∷ 7 ∷ 4 ∷ []) ∷
+    -- the lower withdrawn: the higher; corrected to 8: the higher is told, to 6: the lower; both withdrawn: none
+    (whyIn trips (posting 4 1 7 ∷ posting 6 1 7 ∷ withdrawal 4 ∷ []) 1, 0 ∷ 7 ∷ 6 ∷ []) ∷
+    (whyIn trips (posting 4 1 7 ∷ posting 6 1 7 ∷ posting 6 1 8 ∷ []) 1, 0 ∷ 8 ∷ 6 ∷ []) ∷
+    (whyIn trips (posting 4 1 7 ∷ posting 6 1 7 ∷ posting 6 1 6 ∷ []) 1, 0 ∷ 7 ∷ 4 ∷ []) ∷
+    (whyIn trips (posting 4 1 7 ∷ posting 6 1 7 ∷ withdrawal 4 ∷ withdrawal 6 ∷ []) 1, 0 ∷ 0 ∷ 0 ∷ []) ∷
+    -- J: 10 minutes for connection 1 by notice 7, none for the others
+    (whyEach exampleJ (posting 7 1 10 ∷ []) 5, 0 ∷ 0 ∷ 0 ∷ 0 ∷ 0 ∷ 0 ∷ 0 ∷ 0 ∷ 0 ∷ 0 ∷ 10 ∷ 7 ∷ 0 ∷ 0 ∷ 0 ∷ []) ∷
+    -- 200 notices of a minute: the first; the one corrected to 5 minutes; the last corrected alone
+    (whyTold (explained narrow (areaOf (notices 1 room)) 0), 0 ∷ 1 ∷ 1 ∷ []) ∷
+    (whyTold (explained narrow (withFull narrow 77 0 5 .areas .notices) 0), 0 ∷ 5 ∷ 77 ∷ []) ∷
+    (whyTold (explained narrow (withFull narrow 200 0 2 .areas .notices) 0), 0 ∷ 2 ∷ 200 ∷ []) ∷
+    -- refused: an unknown connection; a wrong row before it; too short an area before that; a wrong file before all
+    (whyIn trips (posting 1 0 8 ∷ []) 4, 13 ∷ 0 ∷ []) ∷
+    (whyTold (explained trips (1 ∷ 1 ∷ 4 ∷ 8 ∷ replicate 597 0) 4), 23 ∷ 1 ∷ []) ∷
+    (whyTold (explained trips (201 ∷ replicate 600 0) 0), 23 ∷ 0 ∷ []) ∷
+    (whyTold (explained trips (1 ∷ 1 ∷ 4 ∷ 8 ∷ replicate 596 0) 4), 21 ∷ 0 ∷ []) ∷
+    (whyTold (explained [] [] 4), 1 ∷ 0 ∷ []) ∷
     -- of two that can stand before 2 the lower, although it arrives later
     (
       enquiryIn choice [] 0 2 100,
@@ -530,12 +575,12 @@ cases =
     asTheyCame = posting 7 0 8 ∷ posting 3 1 2 ∷ posting 5 3 4 ∷ withdrawal 3 ∷ posting 3 2 1 ∷ []
 
 pub cases-right : right cases ≡ true
-unfolding right cases told whole enquiryIn spare marginIn tests answersTold timesIn run notices withFull fullTold exampleJ
+unfolding right cases told whole enquiryIn spare marginIn whyTold whyIn whyEach tests answersTold timesIn run notices withFull fullTold exampleJ
     sameMinute overtaking loop meeting back narrow board trips choice ends empty inBytes
-    has hasElsewhere corrected without registerStep kept runOf ran built changed enquired margined marginOf partVerdict same
+    has hasElsewhere corrected without registerStep kept runOf ran built changed enquired margined marginOf whyVerdict explained partVerdict same
     fileVerdict headerVerdict stopVerdict wrongStops wrongTrip wrongTimes wrongJoin connectionVerdict firstBelow
     transferTime trip from to scheduledDeparture scheduledArrival staysAboard
     leastBelow tab flat cut areaOf rowsOf some stands standsElsewhere struck inserted entered standsRight unusedRight rowsFrom rowsVerdict
-    primaryDelay expectedDeparture expectedArrival networkOf firstOn waiting transferTo firstDeparture times graphOf
+    prevails withNotice primaryDelay expectedDeparture expectedArrival networkOf firstOn waiting transferTo firstDeparture times graphOf
     canBeFirst canFollow choose rounds predecessors follow arriving lastTo nowhere journeyIn
 cases-right = refl

@@ -53,7 +53,7 @@ abbrev Decides : ℕ → List ℕ → List ℕ → Type 0
 Decides need xs rest = ltb (length (xs ++ rest)) need ≡ ltb (length xs) need
 
 -- a front that covers what is needed decides whether there is enough
-covers-decides : (k need : ℕ) (area : List ℕ) → Covers k need area → Decides need (take k area) (drop k area)
+pub covers-decides : (k need : ℕ) (area : List ℕ) → Covers k need area → Decides need (take k area) (drop k area)
 covers-decides k need area h =
     rw (take-append-drop, length-take)
     (⊎-elim
@@ -62,12 +62,12 @@ covers-decides k need area h =
     (by-lt (length area) need))
 
 -- what comes after a verdict matters where it passes
-else-same : (v : Verdict) {w w′ : Verdict} → (v ≡ Passed → w ≡ w′) → orElse v w ≡ orElse v w′
+pub else-same : (v : Verdict) {w w′ : Verdict} → (v ≡ Passed → w ≡ w′) → orElse v w ≡ orElse v w′
 else-same Passed h = h refl
 else-same (Refused n p) h = refl
 
 -- the value of an answer matters where it is accepted
-answering-same : {A : Type 0} {v v′ : Verdict} {x x′ : A} → v ≡ v′ → (v′ ≡ Passed → x ≡ x′) → answering v x ≡ answering v′ x′
+pub answering-same : {A : Type 0} {v v′ : Verdict} {x x′ : A} → v ≡ v′ → (v′ ≡ Passed → x ≡ x′) → answering v x ≡ answering v′ x′
 answering-same {A} {v} {v′} {x} {x′} e h = rw e (on v′ h)
   where
     on : (v : Verdict) → (v ≡ Passed → x ≡ x′) → answering v x ≡ answering v x′

@@ -10,7 +10,7 @@ use Rattle.timetable.specs.File.{transferTime, trip, from, to, scheduledDepartu
 use Rattle.timetable.specs.Check.{headerVerdict, stopVerdict, wrongStops, wrongTrip, wrongTimes, wrongJoin, connectionVerdict, fileVerdict}
 use Rattle.model.specs.Least.{leastBelow, tab}
 use Rattle.model.specs.Notices.{noticesLength, flat, cut, areaOf, rowsOf, some, stands, standsElsewhere, struck, inserted, entered, standsRight, unusedRight, rowsFrom, rowsVerdict}
-use Rattle.model.specs.Times.{primaryDelay, expectedDeparture, expectedArrival, networkOf}
+use Rattle.model.specs.Times.{prevails, withNotice, primaryDelay, expectedDeparture, expectedArrival, networkOf}
 use Rattle.model.specs.Graph.{firstOn, waiting, transferTo, firstDeparture, times, graphOf}
 use Rattle.model.specs.Journeys.{canBeFirst, canFollow}
 use Rattle.model.specs.Predecessors.{choose, rounds, predecessors, follow, arriving, lastTo, nowhere, journeyIn}
@@ -84,6 +84,6 @@ unfolding right table told timesOf enquiryAfter after
     fileVerdict headerVerdict stopVerdict wrongStops wrongTrip wrongTimes wrongJoin connectionVerdict firstBelow
     transferTime trip from to scheduledDeparture scheduledArrival staysAboard
     leastBelow tab flat cut areaOf rowsOf some stands standsElsewhere struck inserted entered standsRight unusedRight rowsFrom rowsVerdict
-    primaryDelay expectedDeparture expectedArrival networkOf firstOn waiting transferTo firstDeparture times graphOf
+    prevails withNotice primaryDelay expectedDeparture expectedArrival networkOf firstOn waiting transferTo firstDeparture times graphOf
     canBeFirst canFollow choose rounds predecessors follow arriving lastTo nowhere journeyIn
 instances = refl

@@ -8,6 +8,7 @@ pub mod Lists
 pub mod Areas
 pub mod Rows
 pub mod Entering
+pub mod Primary
 pub mod Times
 pub mod Boards
 pub mod Arcs
@@ -24,6 +25,7 @@ pub mod Journeys
 pub mod Shown
 pub mod Enquiries
 pub mod Fronts
+pub mod Why
 pub mod Register
 pub mod Latest
 pub mod Runs

@@ -35,7 +35,7 @@ needs-passed day areas n area most = (
 )
 
 -- a file is refused with 1 to 11
-file-number : {f : List ℕ} {n p : ℕ} → FileRefusal f n p → (0 < n) × (n ≤ of-file.wrongJoin)
+pub file-number : {f : List ℕ} {n p : ℕ} → FileRefusal f n p → (0 < n) × (n ≤ of-file.wrongJoin)
 file-number (no-header h) = (omega arith, omega arith)
 file-number (wrong-mark h k) = (omega arith, omega arith)
 file-number (wrong-version h k) = (omega arith, omega arith)

@@ -10,21 +10,21 @@ use borrow.Author.Tests.{leb-true, leb-false, eqb-false, not-false}
 use lib.Dec.{leb, eqb}
 use lib.ListN.{length, drop, length-append}
 use lib.Seq.{drop-at, take-at}
-use Rattle.timetable.specs.Answers.{Answer, accepted, refused}
+use Rattle.timetable.specs.Answers.{Answer, accepted, refused, refuseIf, answering}
 use Rattle.timetable.specs.File.{stops, connections}
 use Rattle.timetable.specs.Check.{fileVerdict, Counts, countsOf}
 use Rattle.timetable.specs.declared.Verdict.{Verdict}
 use Rattle.timetable.specs.declared.Verdict.the-variants.{Passed, Refused}
 use Rattle.model.specs.RefusalNumber as refusal
-use Rattle.model.specs.Notices.{Notice, notice, room, noticesLength, width, leastDelay, mostPosted, areaOf, stands, standsElsewhere, struck, entered, Ascending, WellFormed}
+use Rattle.model.specs.Notices.{Notice, notice, room, noticesLength, width, leastDelay, mostPosted, areaOf, stands, standsElsewhere, struck, entered, rowsVerdict, Ascending, WellFormed}
 use Rattle.model.specs.Network.{Network}
-use Rattle.model.specs.Times.{networkOf}
+use Rattle.model.specs.Times.{primaryDelay, networkOf}
 use Rattle.model.specs.Predecessors.{predecessors, nowhere, journeyIn}
 use Rattle.model.specs.Day.{Day, Areas, lent}
 use Rattle.model.specs.Ready.{Ready}
 use Rattle.model.specs.Drawn.{graphLength, graphFor, standing, networkBy}
 use Rattle.model.specs.Parts.{Part, Ask, askedVerdict, partVerdict, verdict, buildingParts, callParts, enquiryRoom, postingAsks, withdrawalAsks, enquiryAsks, roomVerdict, contentsVerdict}
-use Rattle.model.specs.Operations.{Outcome, outcome, written, concluded, built, changed, answered, searched, enquired}
+use Rattle.model.specs.Operations.{Outcome, outcome, written, concluded, built, changed, answered, searched, enquired, explained}
 use Rattle.model.specs.Register.{Call, posting, withdrawal, Step, refuse, accept, corrected, without, registerStep, Kept, kept}
 use Rattle.model.specs.Runs.{called, Ran, ran, runFrom, runOf, overAreas, registerOf, Ascends, NoticesHeld, GraphHeld, Held, Claim}
 use Rattle.model.proofs.ByCases.{by-bool, and-left, and-right}
@@ -33,11 +33,13 @@ use Rattle.model.proofs.Lists.{same-refl}
 use Rattle.model.proofs.Areas.{length-area, rows-area, past-area}
 use Rattle.model.proofs.Rows.{area-right}
 use Rattle.model.proofs.Entering.{entered-fits, entered-formed, struck-formed}
+use Rattle.model.proofs.Primary.{primary-same}
 use Rattle.model.proofs.Times.{network-same}
 use Rattle.model.proofs.Shown.{readable, arcs-lead}
 use Rattle.model.proofs.Register.{arrangedOn, arranged, count-arranged, same-arranged, has-arranged, elsewhere-arranged, corrected-arranged, new-arranged, struck-arranged}
 use Rattle.model.proofs.Parts.{AskedWith, asked-number, call-chain, needs-passed, long-room, parts-number}
 use Rattle.model.proofs.Ready.{graph-long, ready-by}
+use Rattle.model.proofs.Why.{why-standing}
 
 -- an empty register is well formed
 pub none-formed : (C : ℕ) → WellFormed C []
@@ -326,6 +328,16 @@ module _ (day : Day) (areas₀ : Areas) where
     pub network-kept : networkBy day areas ≡ networkOf day register
     network-kept = rw (k .areas-are, standing-written ns) network-is
 
+    -- why is refused for an unknown connection only, and tells the primary delay by the register's notices
+    pub why-kept : (c : ℕ) → explained (day .file) (areas .notices) c
+        ≡ answering (refuseIf (leb (connections (day .file)) c) refusal.unknownConnection 0) (primaryDelay c register)
+    why-kept c =
+        let rows = ready-kept .rows in
+        let checked = ap (rowsVerdict (connections (day .file))) (rows .noted) ∙ area-right (connections (day .file)) (standing areas) _ (rows .rows) in
+        let stood : standing areas ≡ ns = rw (k .areas-are) (standing-written ns) in
+        why-standing (day .file) (areas .notices) c pass (rows .long) checked
+        ∙ ap (answering (refuseIf (leb (connections (day .file)) c) refusal.unknownConnection 0)) (ap (primaryDelay c) stood ∙ primary-same c ns register (λ n. same-arranged n register))
+
 module _ (day : Day) (areas₀ : Areas) (calls : List Call) (counts : Counts) (h : built day areas₀ .answer ≡ accepted counts) where
   -- the run from the areas that the building left
   pub after-building : Agreed day areas₀ (ran day (written day areas₀ []) calls) (registerOf day calls)
@@ -352,3 +364,9 @@ module _ (day : Day) (areas₀ : Areas) (calls : List Call) (counts : Counts) (h
       → AskedWith (enquiryAsks (stops (day .file)) a b t) n ⊎ (n ≡ refusal.unreachable)
   enquiry-refusals =
       refusals-kept day areas₀ (building-is day areas₀ counts h .0) (registerOf day calls .register) (runOf day areas₀ calls .areas) (run-agrees .keeps)
+
+  -- and why tells, of every connection of the timetable, the primary delay by the register's notices
+  pub why-after : (c : ℕ) → explained (day .file) (runOf day areas₀ calls .areas .notices) c
+      ≡ answering (refuseIf (leb (connections (day .file)) c) refusal.unknownConnection 0) (primaryDelay c (registerOf day calls .register))
+  why-after =
+      why-kept day areas₀ (building-is day areas₀ counts h .0) (registerOf day calls .register) (runOf day areas₀ calls .areas) (run-agrees .keeps)

@@ -4,15 +4,18 @@ use mathlib.Core.Bool.{Bool, true, false}
 use mathlib.Core.List.{List, [], _++_, reverse}
 use Prim.Native.Nat.{ℕ}
 use lib.IntN.{ℤ}
+use lib.Dec.{ltb, leb}
 use lib.ListN.{length, drop}
-use Rattle.timetable.specs.Answers.{Answer, accepted, refused, answering}
+use Rattle.timetable.specs.Answers.{Answer, accepted, refused, refuseIf, orElse, answering}
 use Rattle.timetable.specs.File.{stops, connections}
-use Rattle.timetable.specs.Check.{Counts, countsOf}
+use Rattle.timetable.specs.Check.{fileVerdict, Counts, countsOf}
 use Rattle.timetable.specs.declared.Verdict.{Verdict}
 use Rattle.timetable.specs.declared.Verdict.the-variants.{Passed, Refused}
 use Rattle.model.specs.RefusalNumber as refusal
-use Rattle.model.specs.Notices.{Notice, notice, areaWith, entered, struck}
+use Rattle.model.specs.Notices.{Notice, notice, noticesLength, areaWith, rowsOf, entered, struck, rowsVerdict}
 use Rattle.model.specs.Network.{Network}
+use Rattle.model.specs.declared.PrimaryDelay.{PrimaryDelay}
+use Rattle.model.specs.Times.{primaryDelay}
 use Rattle.model.specs.Journeys.{arrives}
 use Rattle.model.specs.Predecessors.{predecessors, nowhere, journeyIn}
 use Rattle.model.specs.Margin.{marginOf}
@@ -94,3 +97,14 @@ enquired day areas work journey a b t =
 unfoldable pub margined : Day → Areas → ℕ → ℕ → Answer ℤ
 margined day areas c d =
     answering (verdict day areas (callParts day areas [] (marginAsks (day .file) c d))) (marginOf (networkBy day areas) c d)
+
+-- what telling why connection c of C is late asks: room in the notice area, its rows, and the connection
+unfoldable pub whyVerdict : ℕ → List ℕ → ℕ → Verdict
+whyVerdict C notices c =
+    orElse (refuseIf (ltb (length notices) noticesLength) refusal.shortNotices 0)
+    (orElse (rowsVerdict C notices) (refuseIf (leb C c) refusal.unknownConnection 0))
+
+-- why connection c is late: its primary delay. Only the file and the notice area are looked at, and what the connection before passes
+-- on is not told
+unfoldable pub explained : List ℕ → List ℕ → ℕ → Answer PrimaryDelay
+explained f notices c = answering (orElse (fileVerdict f) (whyVerdict (connections f) notices c)) (primaryDelay c (rowsOf notices))

@@ -1,29 +1,46 @@
 -- Delays and expected times (document 01: times in force), and the network of a day with its notices. Assumes nothing.
-use mathlib.Core.Bool.{cond}
+use mathlib.Core.Bool.{Bool, cond, _&&_, _||_}
 use mathlib.Core.List.{List, [], _∷_}
 use Prim.Native.Nat.{ℕ, zero, suc, _+_, _-_, max}
-use lib.Dec.{eqb}
+use lib.Dec.{ltb, eqb}
 use Rattle.timetable.specs.File.{stops, connections, transferTime, from, to, scheduledDeparture, scheduledArrival, staysAboard}
+use Rattle.model.specs.declared.PrimaryDelay.{PrimaryDelay}
 use Rattle.model.specs.Notices.{Notice}
 use Rattle.model.specs.Network.{Network}
 use Rattle.model.specs.Day.{Day}
 
--- the primary delay (document 01: own delay): the largest delay among a connection's notices, 0 without one
-unfoldable pub primaryDelay : ℕ → List Notice → ℕ
-primaryDelay c [] = 0
-primaryDelay c (n ∷ ns) = cond (eqb (n .connection) c) (max (n .delay) (primaryDelay c ns)) (primaryDelay c ns)
+-- a primary delay (document 01: own delay) is a delay and the notice that gives it: 0 and 0 without one
+abbrev pub noDelay : PrimaryDelay
+noDelay = record { delay = 0; notice = 0 }
 
--- the conditions on which expected times depend: each connection's own delay
+-- what a notice gives
+abbrev pub givenBy : Notice → PrimaryDelay
+givenBy n = record { delay = n .delay; notice = n .number }
+
+-- a delay prevails over a shorter one, and over one as long of a higher notice number
+unfoldable pub prevails : PrimaryDelay → PrimaryDelay → Bool
+prevails p q = ltb (q .delay) (p .delay) || (eqb (p .delay) (q .delay) && ltb (p .notice) (q .notice))
+
+-- connection c's primary delay, which is p without this notice
+unfoldable pub withNotice : ℕ → Notice → PrimaryDelay → PrimaryDelay
+withNotice c n p = cond (eqb (n .connection) c && prevails (givenBy n) p) (givenBy n) p
+
+-- the primary delay of a connection: of its notices' delays the one that prevails
+unfoldable pub primaryDelay : ℕ → List Notice → PrimaryDelay
+primaryDelay c [] = noDelay
+primaryDelay c (n ∷ ns) = withNotice c n (primaryDelay c ns)
+
+-- the conditions on which expected times depend: each connection's primary delay
 pub record Conditions : Type 0 where
-  pub delay : ℕ → ℕ
+  pub primary : ℕ → PrimaryDelay
 
 -- the conditions of the notices that stand
 abbrev pub conditionsOf : List Notice → Conditions
-conditionsOf ns = record { delay = λ c. primaryDelay c ns }
+conditionsOf ns = record { primary = λ c. primaryDelay c ns }
 
--- the scheduled departure plus the connection's own delay
+-- the scheduled departure plus the connection's primary delay
 abbrev pub ownDeparture : List ℕ → Conditions → ℕ → ℕ
-ownDeparture f conditions c = scheduledDeparture f c + conditions .delay c
+ownDeparture f conditions c = scheduledDeparture f c + conditions .primary c .delay
 
 -- the scheduled travel time
 abbrev pub travelTime : List ℕ → ℕ → ℕ

@@ -1,5 +1,5 @@
 // Every rule of document 01 as a definition (specs/), with the laws that give them their meaning (proofs/). The code here is the
-// limits and the refusals by name: each constant is the definition of the same name in specs/.
+// limits and the refusals by name, each constant the definition of the same name in specs/, and the primary delay as a struct.
 pub mod refusal;
 
 // No connection: `none`.
@@ -28,3 +28,9 @@ pub const LAST_EXPECTED: u16 = 5759;
 
 // The longest graph area: `mostGraph`.
 pub const MOST_GRAPH: usize = 8500;
+
+// A connection's primary delay and the number of the notice that gives it.
+pub struct PrimaryDelay {
+    pub delay: u16,
+    pub notice: u16,
+}

@@ -3,10 +3,10 @@ ghost use mathlib.Core.Path.{_≡_};
 ghost use Rattle.numbers.specs.Numbers.{numbersOf};
 ghost use Rattle.timetable.specs.Check.{checkedAnswer};
 ghost use Rattle.model.specs.Day.{dayOf};
-ghost use Rattle.model.specs.Operations.{built, posted, withdrawn, enquired, margined};
+ghost use Rattle.model.specs.Operations.{built, posted, withdrawn, enquired, margined, explained};
 ghost use Rattle.gtfs.specs.Conversions.{imported, exported};
 ghost use Rattle.coded_conversions.specs.Coded.{ConversionCoded};
-ghost use Rattle.codes.specs.Encoded.{coded, codedCounts, codedMargin};
+ghost use Rattle.codes.specs.Encoded.{coded, codedCounts, codedMargin, codedPrimary};
 ghost use Rattle.fronts.specs.Fronts.{lentBytes};
 ghost use Rattle.coded_updates.specs.Updated.{codedBy, OutcomeBytes};
 ghost use Rattle.front_enquiries.specs.Enquired.{EnquiryBytes};
@@ -97,6 +97,14 @@ pub extern "C" fn ttg_margin(file: &[u8], notices: &[u8], graph: &[u8], ride: u1
         (margined (dayOf (now (file .entry))) (lentBytes (now (notices .entry)) (now (graph .entry))) ride next) ⌝ }
 {
     byte_margins::margin_bytes(file, notices, graph, ride, next)
+}
+
+// Why connection `ride` is late: its primary delay and the notice that gives it.
+#[no_mangle]
+pub extern "C" fn ttg_why(file: &[u8], notices: &[u8], ride: u16) -> u64
+    ensures { λ r. ⌜ r ≡ codedPrimary (explained (now (file .entry)) (numbersOf (now (notices .entry))) ride) ⌝ }
+{
+    byte_causes::why_bytes(file, notices, ride)
 }
 
 // The timetable file of stop_times.txt and of each stop's transfer time.

@@ -4,11 +4,13 @@ ghost use mathlib.Core.List.{List};
 ghost use Prim.Native.Nat.{ℕ};
 ghost use Rattle.graph.specs.Answers.{toldNumber};
 ghost use Rattle.margins.specs.Margin.{toldMargin};
+ghost use Rattle.causes.specs.Cause.{toldPrimary};
 ghost use Rattle.journeys.specs.Reading.{toldArrival};
 ghost use Rattle.lines.specs.Lines.{posted, withdrawn, margin};
 ghost use Rattle.written_replies.specs.Replies.{lineOf};
 ghost use Rattle.written_replies.specs.Said.{lineIn, Fits};
-ghost use Rattle.replies.specs.Replies.{sayArrival, Counted};
+ghost use Rattle.replies.specs.Replies.{sayArrival, sayWhy, Counted};
+use causes::Explained;
 use graph::Noted;
 use journeys::Enquired;
 use margins::Margined;
@@ -52,5 +54,15 @@ pub fn margin_reply(margined: Margined) -> Reply
     match margined {
         Margined::Minutes(minutes) => Reply::Margin(minutes),
         Margined::Refused(number, place) => Reply::Refused(number, place),
+    }
+}
+
+// What is said to the answer of why.
+pub fn why_reply(connection: u16, explained: Explained) -> Reply
+    ensures { λ r. ⌜ ((j : List ℕ) → (lineIn j r ≡ lineOf (sayWhy connection) (toldPrimary explained)) × Fits j r) ⌝ }
+{
+    match explained {
+        Explained::Primary(primary) => Reply::Why(connection, primary.delay, primary.notice),
+        Explained::Refused(number, place) => Reply::Refused(number, place),
     }
 }

@@ -33,7 +33,7 @@ later-most false own before = omega arith
 
 -- the departure by the arrival of the connection before
 pub departs-is : (f : List ℕ) (conditions : Conditions) (c before : ℕ) → ((e : ℕ) → c ≡ suc e → before ≡ expectedArrival f conditions e)
-    → departsAt f c (conditions .delay c) before ≡ expectedDeparture f conditions c
+    → departsAt f c (conditions .primary c) before ≡ expectedDeparture f conditions c
 departs-is f conditions zero before h = rw (first-starts f) (sym (departure-own f conditions zero (first-starts f)))
 departs-is f conditions (suc e) before h =
     ⊎-elim
@@ -42,11 +42,11 @@ departs-is f conditions (suc e) before h =
     (by-bool (staysAboard f (suc e)))
 
 -- no arrival is above the last minute of a time in force
-pub arrives-by : (f : List ℕ) (s n : ℕ) (delays : List ℕ) → Opened f s n → Delays delays n → (c : ℕ) → c < n
-    → expectedArrival f (conditionsIn delays) c ≤ lastExpected
-arrives-by f s n delays o d c h =
+pub arrives-by : (f : List ℕ) (s n : ℕ) (primaries : List ℕ) → Opened f s n → Delays primaries n → (c : ℕ) → c < n
+    → expectedArrival f (conditionsIn primaries) c ≤ lastExpected
+arrives-by f s n primaries o d c h =
     let k : c < connections f = omega (arith, o .connections) in
-    omega (arith, o .timetable .within c k, arrival-most f (o .timetable) (conditionsIn delays) mostStanding c (λ e l. d .most e (omega (arith, o .connections))) k)
+    omega (arith, o .timetable .within c k, arrival-most f (o .timetable) (conditionsIn primaries) mostStanding c (λ e l. d .most e (omega (arith, o .connections))) k)
 
 -- a connection of an accepted timetable departs before it arrives, which is early
 pub scheduled-early : (f : List ℕ) (s : ℕ) → Opened f s (connections f) → (c : ℕ) → c < connections f

@@ -3,15 +3,14 @@ use mathlib.Core.Path.{_≡_, refl, ap}
 use mathlib.Core.List.{List}
 use Prim.Native.Nat.{ℕ, _≤_}
 use native.Mathlib.Omega.{arith}
-use lib.IntN.{ℤ}
 use lib.ListN.{length, length-append, length-reverse}
 use Rattle.timetable.specs.Answers.{Answer, accepted, refused}
 use Rattle.model.specs.Day.{Day, Areas}
 use Rattle.model.specs.Network.{Network}
-use Rattle.model.specs.Operations.{Outcome, outcome, Arrival, enquired, margined}
+use Rattle.model.specs.Operations.{Outcome, outcome, Arrival, enquired}
 use Rattle.model.specs.Meaning.{Journey, Means}
 use Rattle.search.specs.Answered.{Answered}
-use Rattle.lines.specs.Lines.{Line, margin, textOf}
+use Rattle.lines.specs.Lines.{Line, textOf}
 use Rattle.labels.specs.Room.{LineIs}
 use Rattle.written_replies.specs.declared.Reply.{Reply}
 use Rattle.written_replies.specs.Replies.{lineOf}
@@ -48,10 +47,10 @@ enquiring-performed day s a b t {answer} {work} {journey} h told = record {
   fits = told journey .1 (answer-within answer (h .means));
 }
 
--- a margin
-pub margin-performed : (s : State) {answer margined : Answer ℤ} {r : Reply} → answer ≡ margined
-    → ((j : List ℕ) → (lineIn j r ≡ lineOf margin answer) × Fits j r) → Performed r s (turn (lineOf margin margined) s)
-margin-performed s e told = record { is = rw (told (s .journey) .0, e); fits = told (s .journey) .1 }
+-- a margin, or why: nothing changes
+pub telling-performed : {A : Type 0} (s : State) (say : A → Line) {answer told : Answer A} {r : Reply} → answer ≡ told
+    → ((j : List ℕ) → (lineIn j r ≡ lineOf say answer) × Fits j r) → Performed r s (turn (lineOf say told) s)
+telling-performed s say e said = record { is = rw (said (s .journey) .0, e); fits = said (s .journey) .1 }
 
 -- a command worked and its reply written
 pub performed-worked : {t : Turn} {r : Reply} {after : State} {n : ℕ} {out out₀ : List ℕ} → Performed r after t

@@ -2,12 +2,12 @@
 use mathlib.Core.List.{List}
 use Prim.Native.Nat.{ℕ}
 use Rattle.model.specs.Day.{Day, Areas}
-use Rattle.model.specs.Operations.{Outcome, Enquiry, posted, withdrawn, enquired, margined}
+use Rattle.model.specs.Operations.{Outcome, Enquiry, posted, withdrawn, enquired, margined, explained}
 use Rattle.meanings.specs.declared.Command.{Command}
 use Rattle.meanings.specs.declared.Command.the-variants as C
 use Rattle.lines.specs.Lines as L
 use Rattle.written_replies.specs.Replies.{lineOf}
-use Rattle.replies.specs.Replies.{unreadable, sayArrival}
+use Rattle.replies.specs.Replies.{unreadable, sayArrival, sayWhy}
 
 -- what the desk has from line to line: both areas, and the areas of the predecessors and of the journey
 pub record State : Type 0 where
@@ -40,4 +40,5 @@ turnOf day s (C.Post n c d) = changing s L.posted (posted day (s .areas) n c d)
 turnOf day s (C.Withdraw n) = changing s L.withdrawn (withdrawn day (s .areas) n)
 turnOf day s (C.Enquire a b t) = enquiring s (enquired day (s .areas) (s .work) (s .journey) a b t)
 turnOf day s (C.Margin c d) = turn (lineOf L.margin (margined day (s .areas) c d)) s
+turnOf day s (C.Why c) = turn (lineOf (sayWhy c) (explained (day .file) (s .areas .notices) c)) s
 turnOf day s C.Unreadable = turn (L.refusal unreadable 0) s

@@ -46,6 +46,9 @@ fn perform(
         Command::Margin(connection, next) => {
             replies::margin_reply(search::margin(file, notices, graph, connection, next))
         }
+        Command::Why(connection) => {
+            replies::why_reply(connection, graph::why(file, notices, connection))
+        }
         Command::Unreadable => Reply::Refused(UNREADABLE, 0),
     }
 }

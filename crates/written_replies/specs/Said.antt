@@ -7,7 +7,7 @@ use Rattle.timetable.specs.Answers.{Answer, isAccepted}
 use Rattle.timetable.specs.Check.{Counts}
 use Rattle.labels.specs.Room.{lineRoom, LineIs}
 use Rattle.arrivals.specs.Room.{arrivalRoom}
-use Rattle.lines.specs.Lines.{Line, arrives, posted, withdrawn, refusal, margin, textOf}
+use Rattle.lines.specs.Lines.{Line, arrives, posted, withdrawn, refusal, margin, why, textOf}
 use Rattle.written_replies.specs.declared.Reply.{Reply}
 use Rattle.written_replies.specs.declared.Reply.the-variants as R
 use Rattle.written_replies.specs.declared.Begun.{Begun}
@@ -23,6 +23,7 @@ lineIn journey (R.Arrives t n) = arrives t (take n journey)
 lineIn journey (R.Posted n) = posted n
 lineIn journey (R.Withdrawn n) = withdrawn n
 lineIn journey (R.Margin z) = margin z
+lineIn journey (R.Why c d n) = why c d n
 lineIn journey (R.Refused n p) = refusal n p
 
 -- a reply names no more connections than the journey's area has
@@ -31,6 +32,7 @@ Fits journey (R.Arrives t n) = n ≤ length journey
 Fits journey (R.Posted n) = Unit {0}
 Fits journey (R.Withdrawn n) = Unit {0}
 Fits journey (R.Margin z) = Unit {0}
+Fits journey (R.Why c d n) = Unit {0}
 Fits journey (R.Refused n p) = Unit {0}
 
 -- the line of a building's answer stands at the front of out, the rest of out is as before, and whether it is accepted is told

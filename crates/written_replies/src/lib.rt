@@ -14,6 +14,8 @@ pub enum Reply {
     Posted(u16),
     Withdrawn(u16),
     Margin(i32),
+    // the connection, its primary delay and the notice that gives it
+    Why(u16, u16, u16),
     // number and place
     Refused(u16, u16),
 }
@@ -36,6 +38,7 @@ pub fn write_reply(reply: Reply, journey: &[u16], out: &mut [u8]) -> usize
         Reply::Posted(number) => lines::write_posted(number, out),
         Reply::Withdrawn(number) => lines::write_withdrawn(number, out),
         Reply::Margin(minutes) => lines::write_margin(minutes, out),
+        Reply::Why(connection, delay, notice) => lines::write_why(connection, delay, notice, out),
         Reply::Refused(number, place) => lines::write_refusal(number, place, out),
     }
 }

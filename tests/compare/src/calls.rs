@@ -48,6 +48,8 @@ pub enum Call {
     Enquire(u16, u16, u16),
     /// Two connections.
     Margin(u16, u16),
+    /// A connection.
+    Why(u16),
 }
 
 /// An operation between stop_times.txt and a timetable file.
@@ -63,11 +65,14 @@ pub const POST: usize = 2;
 pub const WITHDRAW: usize = 3;
 pub const ENQUIRE: usize = 4;
 pub const MARGIN: usize = 5;
-pub const IMPORT: usize = 6;
-pub const EXPORT: usize = 7;
+pub const WHY: usize = 6;
+pub const IMPORT: usize = 7;
+pub const EXPORT: usize = 8;
 
 pub struct Operation {
     pub name: &'static str,
+    /// Whether an accepted call may write.
+    pub writes: bool,
     /// Each refusal that some call of it gets.
     pub refusals: &'static [&'static [usize]],
 }
@@ -76,37 +81,50 @@ const FILE: &[usize] = &[1, 2, 3, 4, 5, 6, 7, 8, 9, 10, 11];
 const ROOM: &[usize] = &[21, 22];
 const CONTENTS: &[usize] = &[23, 24];
 
-pub const OPERATIONS: [Operation; 8] = [
+pub const OPERATIONS: [Operation; 9] = [
     Operation {
         name: "check",
+        writes: false,
         refusals: &[FILE],
     },
     Operation {
         name: "build",
+        writes: true,
         refusals: &[FILE, ROOM],
     },
     Operation {
         name: "post",
+        writes: true,
         refusals: &[FILE, ROOM, CONTENTS, &[12, 13, 14, 25, 26]],
     },
     Operation {
         name: "withdraw",
+        writes: true,
         refusals: &[FILE, ROOM, CONTENTS, &[12, 27]],
     },
     Operation {
         name: "enquire",
+        writes: true,
         refusals: &[FILE, ROOM, CONTENTS, &[15, 16, 28, 29, 30]],
     },
     Operation {
         name: "margin",
+        writes: false,
         refusals: &[FILE, ROOM, CONTENTS, &[13, 17]],
     },
     Operation {
+        name: "why",
+        writes: false,
+        refusals: &[FILE, &[21, 23, 13]],
+    },
+    Operation {
         name: "import",
+        writes: true,
         refusals: &[&[31, 4, 5, 7, 8, 10, 11, 32]],
     },
     Operation {
         name: "export",
+        writes: true,
         refusals: &[FILE, &[32]],
     },
 ];
@@ -124,6 +142,7 @@ impl Call {
             Call::Withdraw(..) => WITHDRAW,
             Call::Enquire(..) => ENQUIRE,
             Call::Margin(..) => MARGIN,
+            Call::Why(..) => WHY,
         }
     }
 }

@@ -123,11 +123,12 @@ pub fn damaged(rng: &mut Rng, file: &[u8], s: usize, c: usize) -> Vec<u8> {
 
 type AreaFault = fn(&mut State, &mut Rng);
 
-const AREA_FAULTS: [AreaFault; 14] = [
+const AREA_FAULTS: [AreaFault; 15] = [
     wrong_count,
     wrong_row,
     wrong_row,
     exchanged_rows,
+    moved_notice,
     |x, rng| any_content(x, rng, NOTICES),
     |x, rng| any_content(x, rng, GRAPH),
     exchanged_entries,
@@ -195,6 +196,20 @@ fn exchanged_rows(x: &mut State, rng: &mut Rng) {
         let (a, b) = (notices.num(3 * i + k), notices.num(3 * j + k));
         notices.set(3 * i + k, b);
         notices.set(3 * j + k, if rng.chance(10) { b } else { a });
+    }
+}
+
+/// A notice on the connection of another, and mostly as late: right, but not that of the graph.
+fn moved_notice(x: &mut State, rng: &mut Rng) {
+    let standing = gen::standing(x);
+    if standing == 0 {
+        return;
+    }
+    let (from, to) = (rng.below(standing), rng.below(standing));
+    let notices = &mut x.areas[NOTICES];
+    notices.set(2 + 3 * to, notices.num(2 + 3 * from));
+    if rng.chance(70) {
+        notices.set(3 + 3 * to, notices.num(3 + 3 * from));
     }
 }
 

@@ -1,6 +1,6 @@
 //! Inputs: a small generator of numbers, and timetables and calls made with it.
 
-use crate::calls::{Call, BUILD, CHECK, ENQUIRE, GRAPH, NOTICES, POST, WITHDRAW};
+use crate::calls::{Call, BUILD, CHECK, ENQUIRE, GRAPH, NOTICES, POST, WHY, WITHDRAW};
 use crate::rooms::{get, State};
 
 /// SplitMix64.
@@ -167,7 +167,7 @@ pub fn small_sizes(rng: &mut Rng, most: usize) -> (usize, usize) {
 }
 
 /// A delay within its limits.
-pub fn delay(rng: &mut Rng) -> u16 {
+fn delay(rng: &mut Rng) -> u16 {
     match rng.below(10) {
         0..=3 => rng.range(1, 5) as u16,
         4..=6 => rng.range(1, 60) as u16,
@@ -176,16 +176,21 @@ pub fn delay(rng: &mut Rng) -> u16 {
     }
 }
 
+/// A connection that is not there.
+fn missing(rng: &mut Rng, c: usize) -> u16 {
+    rng.pick(&[c as u16, c as u16 + 1, 65535, 2000, 2048])
+}
+
 /// A connection, now and then one that is not there.
 fn ride(rng: &mut Rng, c: usize) -> u16 {
     match rng.below(25) {
-        0 => rng.pick(&[c as u16, c as u16 + 1, 65535, 2000, 2048]),
+        0 => missing(rng, c),
         _ => rng.below(c.max(1)) as u16,
     }
 }
 
 /// How many notices stand, as far as the area has rows for them.
-fn standing(x: &State) -> usize {
+pub fn standing(x: &State) -> usize {
     let notices = &x.areas[NOTICES];
     match notices.len() {
         1202.. => usize::from(notices.num(0)).min(200),
@@ -209,15 +214,32 @@ fn number(rng: &mut Rng, x: &State, known: usize, pool: usize) -> u16 {
     }
 }
 
-/// A posting. Where its number stands it is mostly for the same connection, at times with the same
-/// delay.
+/// Connection and delay of a notice: often the connection of one that stands, and then often its
+/// delay too, so that several with the largest delay are common.
+pub fn late(rng: &mut Rng, x: &State) -> (u16, u16) {
+    let (notices, standing) = (&x.areas[NOTICES], standing(x));
+    let mut delay = delay(rng);
+    if standing == 0 || rng.chance(60) {
+        return (rng.below(x.c.max(1)) as u16, delay);
+    }
+    let row = rng.below(standing);
+    if rng.chance(60) {
+        delay = notices.num(3 + 3 * row);
+    }
+    (notices.num(2 + 3 * row), delay)
+}
+
+/// A posting, now and then of a connection that is not there or with a delay out of its limits. Where
+/// its number stands it is mostly for the same connection, at times with the same delay.
 fn posting(rng: &mut Rng, x: &State, pool: usize) -> Call {
     let number = number(rng, x, 25, pool);
-    let mut ride = ride(rng, x.c);
-    let mut delay = match rng.below(20) {
-        0 => rng.pick(&[0, 1441, 65535]),
-        _ => delay(rng),
-    };
+    let (mut ride, mut delay) = late(rng, x);
+    if rng.chance(4) {
+        ride = missing(rng, x.c);
+    }
+    if rng.chance(5) {
+        delay = rng.pick(&[0, 1441, 65535]);
+    }
     let notices = &x.areas[NOTICES];
     let row = (0..standing(x)).find(|row| notices.num(1 + 3 * row) == number);
     if let Some(row) = row.filter(|_| rng.chance(60)) {
@@ -227,6 +249,14 @@ fn posting(rng: &mut Rng, x: &State, pool: usize) -> Call {
         }
     }
     Call::Post(number, ride, delay)
+}
+
+/// A connection that may have notices: mostly one that has.
+pub fn asked(rng: &mut Rng, x: &State) -> u16 {
+    match standing(x) {
+        n if n > 0 && rng.chance(60) => x.areas[NOTICES].num(2 + 3 * rng.below(n)),
+        _ => ride(rng, x.c),
+    }
 }
 
 fn stop(rng: &mut Rng, s: usize) -> u16 {
@@ -260,6 +290,7 @@ pub fn call_of(operation: usize, rng: &mut Rng, x: &State, pool: usize) -> Call 
         POST => posting(rng, x, pool),
         WITHDRAW => Call::Withdraw(number(rng, x, 60, pool)),
         ENQUIRE => Call::Enquire(stop(rng, s), stop(rng, s), time(rng, x)),
+        WHY => Call::Why(asked(rng, x)),
         _ => {
             let a = ride(rng, c);
             let mut b = ride(rng, c);

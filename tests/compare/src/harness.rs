@@ -1,11 +1,11 @@
 //! Makes the same calls on several sides and compares what they answer and leave, byte for byte.
 
 use crate::calls::{Call, Conversion, Side, BUILD, CHECK, ENQUIRE, GRAPH, MARGIN, NOTICES};
-use crate::calls::{AREAS, MOST_REFUSAL, OPERATIONS, POST, WITHDRAW};
+use crate::calls::{Operation, AREAS, MOST_REFUSAL, OPERATIONS, POST, WHY, WITHDRAW};
 use crate::damage::{damage_area, damaged, values};
 use crate::feed::{self, HEADER};
 use crate::gen::{self, call_of, Rng, Style};
-use crate::rooms::{change_length, get, Exchange, Memory, Room, State};
+use crate::rooms::{change_length, get, set_length, Exchange, Memory, Room, State};
 
 /// Which timetables are drawn.
 #[derive(Clone, Copy)]
@@ -35,6 +35,9 @@ pub struct Tester {
     pub notes: Vec<String>,
     /// How often each operation gave each answer number, by the last side.
     pub seen: [[u64; MOST_REFUSAL + 1]; OPERATIONS.len()],
+    /// How often `why` of a run had nothing to tell, one notice, a largest delay of several, and
+    /// several with the largest delay.
+    pub told: [u64; 4],
     scene: String,
 }
 
@@ -46,6 +49,7 @@ impl Tester {
             failed: 0,
             notes: Vec::new(),
             seen: [[0; MOST_REFUSAL + 1]; OPERATIONS.len()],
+            told: [0; 4],
             scene: String::new(),
         }
     }
@@ -56,7 +60,8 @@ impl Tester {
         let (right, others) = self.sides.split_last().expect("a side");
         let mut after = state.clone();
         let answer = after.apply(right, call);
-        self.seen[M::operation(call)][(answer & 65535) as usize] += 1;
+        let operation = M::operation(call);
+        self.seen[operation][(answer & 65535) as usize] += 1;
         for side in others {
             let mut x = state.clone();
             let y = x.apply(side, call);
@@ -83,6 +88,11 @@ impl Tester {
                 ));
             }
         }
+        let Operation { name, writes, .. } = OPERATIONS[operation];
+        if !writes {
+            let kept = after.difference(state).is_none();
+            self.hold(kept, &format!("{name} wrote"));
+        }
         *state = after;
         answer
     }
@@ -108,7 +118,7 @@ impl Tester {
         self.scene = format!("seed {seed} run");
         self.step(&mut state, Call::Check);
         // Before building the areas hold anything.
-        for operation in [POST, WITHDRAW, ENQUIRE, MARGIN] {
+        for operation in [POST, WITHDRAW, ENQUIRE, MARGIN, WHY] {
             let call = call_of(operation, rng, &state, 100);
             self.step(&mut state, call);
         }
@@ -118,8 +128,8 @@ impl Tester {
         let steps = if full { 260 } else { rng.range(10, 80) };
         for i in 0..steps {
             let call = if full && i < 200 {
-                let ride = rng.below(c.max(1)) as u16;
-                Call::Post((1 + i * 7919 % 65521) as u16, ride, gen::delay(rng))
+                let (ride, delay) = gen::late(rng, &state);
+                Call::Post((1 + i * 7919 % 65521) as u16, ride, delay)
             } else {
                 let operation = if full && i < 230 {
                     POST // with 200 standing
@@ -131,14 +141,35 @@ impl Tester {
                 call_of(operation, rng, &state, if full { 65535 } else { pool })
             };
             self.step(&mut state, call);
+            if rng.chance(if full && i < 200 { 3 } else { 30 }) {
+                self.whys(&mut state, rng);
+            }
             if rng.chance(30) {
                 self.probe(&state, rng, seed);
             }
         }
         if c <= 12 && rng.chance(10) {
             self.every_number(&state, rng, seed);
+            self.every_length(&state, rng, seed);
         }
         self.step(&mut state, Call::Build);
+    }
+
+    /// Why of each connection, or where they are many of some, mostly such that have notices; and of
+    /// two past the last.
+    fn whys(&mut self, state: &mut State, rng: &mut Rng) {
+        let c = state.c as u16;
+        let mut rides: Vec<u16> = match c {
+            ..=12 => (0..c).collect(),
+            _ => (0..12).map(|_| gen::asked(rng, state)).collect(),
+        };
+        rides.extend([c, 65535]);
+        for ride in rides {
+            let answer = self.step(state, Call::Why(ride));
+            if answer & 65535 == 0 {
+                self.told[causes(state, ride)] += 1;
+            }
+        }
     }
 
     /// Each operation on a copy of the state with damaged input.
@@ -170,7 +201,7 @@ impl Tester {
             }
         };
         let old = std::mem::replace(&mut self.scene, format!("seed {seed} {what}"));
-        for operation in [CHECK, POST, WITHDRAW, ENQUIRE, MARGIN, BUILD] {
+        for operation in [CHECK, POST, WITHDRAW, ENQUIRE, MARGIN, WHY, BUILD] {
             let call = call_of(operation, rng, &x, 65535);
             self.step(&mut x, call);
         }
@@ -191,7 +222,25 @@ impl Tester {
                 for value in values(state.areas[area].num(i), state.c) {
                     let mut x = state.clone();
                     x.areas[area].set(i, value);
-                    let call = call_of(rng.range(POST, MARGIN), rng, &x, 40);
+                    let call = call_of(rng.range(POST, WHY), rng, &x, 40);
+                    self.step(&mut x, call);
+                }
+            }
+        }
+        self.scene = old;
+    }
+
+    /// Each operation with each area alone of each length near 0 and near the needed one.
+    fn every_length(&mut self, state: &State, rng: &mut Rng, seed: u64) {
+        let old = std::mem::replace(&mut self.scene, format!("seed {seed} one length"));
+        for (which, area) in AREAS.iter().enumerate() {
+            let needed = 2 * (area.needs)(state.s, state.c);
+            let near = needed.saturating_sub(4).max(4)..=needed + 4;
+            for len in (0..4).chain(near) {
+                for operation in [POST, WITHDRAW, ENQUIRE, MARGIN, WHY, BUILD] {
+                    let mut x = state.clone();
+                    set_length(&mut x, rng, which, len);
+                    let call = call_of(operation, rng, &x, 40);
                     self.step(&mut x, call);
                 }
             }
@@ -332,6 +381,19 @@ impl Tester {
             format!("{:8} {}", OPERATIONS[operation].name, list.join(" "))
         };
         self.seen.iter().enumerate().map(line).collect()
+    }
+}
+
+/// The place in `told` of a connection, by the notices that stand.
+fn causes(x: &State, ride: u16) -> usize {
+    let notices = &x.areas[NOTICES];
+    let rows = (0..gen::standing(x)).filter(|row| notices.num(2 + 3 * row) == ride);
+    let delays: Vec<u16> = rows.map(|row| notices.num(3 + 3 * row)).collect();
+    let largest = delays.iter().max();
+    match delays.len() {
+        0 | 1 => delays.len(),
+        _ if delays.iter().filter(|d| Some(*d) == largest).count() == 1 => 2,
+        _ => 3,
     }
 }
 

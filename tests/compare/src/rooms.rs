@@ -190,6 +190,13 @@ impl Memory for Exchange {
     }
 }
 
+/// An area with this length: cut off, or with more bytes.
+pub fn set_length(x: &mut State, rng: &mut Rng, which: usize, len: usize) {
+    let mut content = x.areas[which].area().to_vec();
+    content.resize(len, 0xa5);
+    x.areas[which] = Room::new(rng, &content);
+}
+
 /// An area with another length: near the needed one mostly.
 pub fn change_length(x: &mut State, rng: &mut Rng) {
     let which = rng.below(AREAS.len());
@@ -201,7 +208,5 @@ pub fn change_length(x: &mut State, rng: &mut Rng) {
         3 => needed + rng.below(5),
         _ => (needed + 2).saturating_sub(rng.below(6)),
     };
-    let mut content = x.areas[which].area().to_vec();
-    content.resize(len, 0xa5);
-    x.areas[which] = Room::new(rng, &content);
+    set_length(x, rng, which, len);
 }

@@ -23,6 +23,18 @@ fn small_timetables_and_all_refusals() {
     assert_eq!(t.failed, 0, "{:#?}", t.notes);
 }
 
+/// What `why` tells is by the largest delay, and by the lowest number too, often enough to tell a wrong
+/// choice. A twelfth was chosen by what was counted: the rarest kind, several with the largest delay, is
+/// some 12 in 100, and 3 in 100 where postings do not repeat a connection and its delay.
+#[test]
+fn notices_give_choice() {
+    for sizes in [Sizes::Small(12), Sizes::Any(300)] {
+        let told = agree(&[&FAST, &BY_LAST], 30_000..30_050, sizes).told;
+        let all: u64 = told.iter().sum();
+        assert!(told.iter().all(|&n| 12 * n > all), "{told:?}");
+    }
+}
+
 #[test]
 fn timetables_of_60_connections() {
     agree(&[&FAST, &BY_LAST], 5_000..5_300, Sizes::Any(60));

@@ -4,6 +4,7 @@ mod common;
 
 use common::{each, file, CHANGE, RIDES};
 use compare::calls::{Call, Side};
+use compare::rooms::set;
 
 fn nums(bytes: &[u8]) -> Vec<u16> {
     bytes
@@ -78,6 +79,24 @@ impl Desk {
         line(self.call(Call::Margin(ride, next)), |v| {
             format!("margin {v}")
         })
+    }
+
+    fn why(&mut self, ride: u16) -> String {
+        line(self.call(Call::Why(ride)), |v| {
+            format!("delay {} notice {}", v % 65536, v / 65536)
+        })
+    }
+
+    /// Every byte that a call is lent.
+    fn memory(&self) -> [Vec<u8>; 5] {
+        [
+            &self.file,
+            &self.notices,
+            &self.graph,
+            &self.work,
+            &self.journey,
+        ]
+        .map(Vec::clone)
     }
 
     /// Departure and arrival in force.
@@ -364,5 +383,258 @@ fn margin_at_both_ends() {
         assert_eq!(d.m(0, 1), "margin 5757");
         assert_eq!(d.m(0, 3), "no 17 at 0");
         assert_eq!(d.m(3, 2), "margin 4317");
+    });
+}
+
+#[test]
+fn why_of_no_notice_and_of_one() {
+    each(|side| {
+        let mut d = Desk::j(side);
+        for ride in 0..5 {
+            assert_eq!(d.why(ride), "delay 0 notice 0");
+        }
+        assert_eq!(d.p(7, 1, 10), "posted 7");
+        let lines = [0, 1, 2, 3, 4].map(|ride| d.why(ride));
+        let none = "delay 0 notice 0";
+        assert_eq!(lines, [none, "delay 10 notice 7", none, none, none]);
+        // The ends of both ranges.
+        let mut d = Desk::j(side);
+        assert_eq!(d.p(65535, 0, 1440), "posted 65535");
+        assert_eq!(d.p(1, 4, 1), "posted 1");
+        assert_eq!(d.why(0), "delay 1440 notice 65535");
+        assert_eq!(d.why(4), "delay 1 notice 1");
+    });
+}
+
+#[test]
+fn why_by_the_largest_delay() {
+    each(|side| {
+        // The larger delay with the higher number, then with the lower, each posted first and last.
+        for (small, large) in [((3, 6), (7, 20)), ((7, 6), (3, 20)), ((255, 1), (256, 257))] {
+            for [first, second] in [[small, large], [large, small]] {
+                let mut d = Desk::j(side);
+                assert_eq!(d.p(first.0, 2, first.1), format!("posted {}", first.0));
+                assert_eq!(d.p(second.0, 2, second.1), format!("posted {}", second.0));
+                assert_eq!(d.why(2), format!("delay {} notice {}", large.1, large.0));
+            }
+        }
+    });
+}
+
+#[test]
+fn why_by_the_lowest_number_of_a_tie() {
+    each(|side| {
+        let mut d = Desk::j(side);
+        assert_eq!(d.p(9, 1, 10), "posted 9");
+        assert_eq!(d.why(1), "delay 10 notice 9");
+        // A higher number as late, then a lower one posted later; a lower still that is less late, and
+        // one as late on another connection.
+        for (number, ride, told) in [
+            (12, 1, "delay 10 notice 9"),
+            (4, 1, "delay 10 notice 4"),
+            (256, 1, "delay 10 notice 4"),
+            (1, 2, "delay 10 notice 4"),
+        ] {
+            assert_eq!(d.p(number, ride, 10), format!("posted {number}"));
+            assert_eq!(d.why(1), told);
+        }
+        assert_eq!(d.p(2, 1, 9), "posted 2");
+        assert_eq!(d.why(1), "delay 10 notice 4");
+        assert_eq!(d.why(2), "delay 10 notice 1");
+    });
+}
+
+#[test]
+fn why_after_withdrawals() {
+    each(|side| {
+        let mut d = Desk::j(side);
+        for (number, delay) in [(9, 10), (4, 10), (6, 12), (5, 10), (8, 3)] {
+            assert_eq!(d.p(number, 1, delay), format!("posted {number}"));
+        }
+        // The next one each time; 8 withdrawn between changes nothing.
+        for (number, told) in [
+            (6, "delay 10 notice 4"),
+            (4, "delay 10 notice 5"),
+            (8, "delay 10 notice 5"),
+            (5, "delay 10 notice 9"),
+            (9, "delay 0 notice 0"),
+        ] {
+            assert_eq!(d.w(number), format!("withdrawn {number}"));
+            assert_eq!(d.why(1), told);
+        }
+    });
+}
+
+#[test]
+fn why_after_corrections() {
+    each(|side| {
+        let mut d = Desk::j(side);
+        // Longer, a tie with the higher and with the lower number, shorter than the other, the same again.
+        for (number, delay, told) in [
+            (7, 10, "delay 10 notice 7"),
+            (7, 12, "delay 12 notice 7"),
+            (3, 11, "delay 12 notice 7"),
+            (3, 12, "delay 12 notice 3"),
+            (7, 12, "delay 12 notice 3"),
+            (3, 1, "delay 12 notice 7"),
+            (7, 1, "delay 1 notice 3"),
+            (7, 2, "delay 2 notice 7"),
+        ] {
+            assert_eq!(d.p(number, 1, delay), format!("posted {number}"));
+            assert_eq!(d.why(1), told);
+        }
+        // Refused, for another connection: neither is changed.
+        assert_eq!(d.p(7, 0, 30), "no 25 at 0");
+        assert_eq!(d.why(0), "delay 0 notice 0");
+        assert_eq!(d.why(1), "delay 2 notice 7");
+    });
+}
+
+#[test]
+fn why_of_one_late_through_the_one_before() {
+    each(|side| {
+        let mut d = Desk::j(side);
+        assert_eq!(d.p(3, 0, 20), "posted 3");
+        // Connection 1 leaves at 640, 15 minutes late, without a notice of its own.
+        assert_eq!(d.times(1), [640, 655]);
+        assert_eq!(d.why(0), "delay 20 notice 3");
+        assert_eq!(d.why(1), "delay 0 notice 0");
+        // Of its own 4 minutes it tells these, though it leaves 15 late.
+        assert_eq!(d.p(9, 1, 4), "posted 9");
+        assert_eq!(d.times(1), [640, 655]);
+        assert_eq!(d.why(1), "delay 4 notice 9");
+    });
+}
+
+#[test]
+fn why_with_200_standing() {
+    each(|side| {
+        let mut d = Desk::j(side);
+        // Connection 0 has the multiples of 5, with delay 7 from 105 on; the others their number.
+        for number in 1..=200 {
+            let delay = match (number % 5, number) {
+                (0, 105..) => 7,
+                (0, _) => 6,
+                _ => number,
+            };
+            assert_eq!(d.p(number, number % 5, delay), format!("posted {number}"));
+        }
+        assert_eq!(d.why(0), "delay 7 notice 105");
+        for ride in 1..5 {
+            assert_eq!(d.why(ride), format!("delay {0} notice {0}", 195 + ride));
+        }
+        // The first row and the last, by corrections.
+        assert_eq!(d.p(200, 0, 1440), "posted 200");
+        assert_eq!(d.why(0), "delay 1440 notice 200");
+        assert_eq!(d.p(1, 1, 196), "posted 1");
+        assert_eq!(d.why(1), "delay 196 notice 1");
+        // Room is made, and used by a number past all others.
+        assert_eq!(d.w(200), "withdrawn 200");
+        assert_eq!(d.why(0), "delay 7 notice 105");
+        assert_eq!(d.p(65535, 0, 7), "posted 65535");
+        assert_eq!(d.why(0), "delay 7 notice 105");
+        assert_eq!(d.why(5), "no 13 at 0");
+    });
+}
+
+#[test]
+fn why_writes_nothing_and_needs_no_graph() {
+    each(|side| {
+        let mut d = Desk::j(side);
+        assert_eq!(d.p(7, 1, 10), "posted 7");
+        assert_eq!(d.p(3, 1, 10), "posted 3");
+        d.notices.extend([0xaa; 7]);
+        for graph in [d.graph.clone(), vec![0xaa; 46], vec![]] {
+            d.graph = graph;
+            let before = d.memory();
+            assert_eq!(d.why(1), "delay 10 notice 3");
+            assert_eq!(d.why(0), "delay 0 notice 0");
+            assert_eq!(d.why(5), "no 13 at 0");
+            assert_eq!(d.memory(), before);
+        }
+    });
+}
+
+#[test]
+fn why_refused() {
+    each(|side| {
+        let mut d = Desk::j(side);
+        assert_eq!(d.p(3, 0, 6), "posted 3");
+        assert_eq!(d.p(7, 1, 10), "posted 7");
+        // 13 alone.
+        for ride in [5, 6, 2000, 2048, 65535] {
+            assert_eq!(d.why(ride), "no 13 at 0");
+        }
+        let right = (d.file.clone(), d.notices.clone());
+        // 1 to 11, each alone, then with every later refusal too: 21, 23 and 13.
+        let faults: [(usize, u16, &str); 10] = [
+            (0, 0, "no 2 at 0"),
+            (3, 2, "no 3 at 0"),
+            (5, 501, "no 4 at 0"),
+            (7, 2001, "no 5 at 0"),
+            (7, 4, "no 6 at 0"),
+            (11, 61, "no 7 at 1"),
+            (15 + 20 + 4, 1, "no 8 at 2"),
+            (15 + 40, 3, "no 9 at 4"),
+            (15 + 30 + 8, 655, "no 10 at 3"),
+            (15 + 10 + 6, 619, "no 11 at 1"),
+        ];
+        for (at, v, told) in faults {
+            d.file = right.0.clone();
+            set(&mut d.file, at, v);
+            assert_eq!(d.why(1), told);
+            set(&mut d.notices, 0, 201);
+            assert_eq!(d.why(5), told);
+            d.notices.truncate(1201);
+            assert_eq!(d.why(5), told);
+            d.notices = right.1.clone();
+        }
+        d.file = right.0[..8].to_vec();
+        assert_eq!(d.why(1), "no 1 at 0");
+        d.notices.clear();
+        assert_eq!(d.why(5), "no 1 at 0");
+        d.file = right.0;
+        // 21 for each length that is too short, before 23 and 13.
+        for len in 0..1202 {
+            d.notices = right.1[..len].to_vec();
+            assert_eq!(d.why(1), "no 21 at 0");
+        }
+        set(&mut d.notices, 0, 201);
+        assert_eq!(d.why(1), "no 21 at 0");
+        assert_eq!(d.why(5), "no 21 at 0");
+        // 23 with its place, before 13: the count, the rows that stand, those that do not.
+        for (number, v, place) in [
+            (0, 201, 0),
+            (0, 65535, 0),
+            (0, 0, 1),
+            (0, 1, 2),
+            (0, 3, 3),
+            (1, 0, 1),
+            (1, 7, 2),
+            (2, 5, 1),
+            (3, 0, 1),
+            (4, 3, 2),
+            (5, 65535, 2),
+            (6, 1441, 2),
+            (7, 8, 3),
+            (8, 1, 3),
+            (9, 1, 3),
+            (600, 1, 200),
+        ] {
+            d.notices = right.1.clone();
+            set(&mut d.notices, 2 * number, v);
+            assert_eq!(d.why(1), format!("no 23 at {place}"));
+            assert_eq!(d.why(5), format!("no 23 at {place}"));
+        }
+        // Right again, and longer than needed.
+        for more in 0..5 {
+            d.notices = [&right.1[..], &vec![0xaa; more]].concat();
+            assert_eq!(d.why(1), "delay 10 notice 7");
+            assert_eq!(d.why(5), "no 13 at 0");
+        }
+        // No connection at all.
+        let mut d = Desk::open(side, &[0], &[]);
+        assert_eq!(d.why(0), "no 13 at 0");
+        assert_eq!(d.why(65535), "no 13 at 0");
     });
 }

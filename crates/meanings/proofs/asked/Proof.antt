@@ -16,17 +16,14 @@ slice-aggregate-same c = search needs
 same-requires : tie.Need-same-requires
 same-requires c κs = search needs
 
-enum-known-numbers-2 : tie.Need-enum-known-numbers-2
-enum-known-numbers-2 c = search needs
-
 slice-aggregate-same-2 : tie.Need-slice-aggregate-same-2
 slice-aggregate-same-2 c = search needs
 
 same-requires-2 : tie.Need-same-requires-2
 same-requires-2 c κs = search needs
 
-enum-known-numbers-3 : tie.Need-enum-known-numbers-3
-enum-known-numbers-3 c = search needs
+enum-known-numbers-2 : tie.Need-enum-known-numbers-2
+enum-known-numbers-2 c = search needs
 
 slice-aggregate-same-3 : tie.Need-slice-aggregate-same-3
 slice-aggregate-same-3 c = search needs
@@ -34,11 +31,20 @@ slice-aggregate-same-3 c = search needs
 same-requires-3 : tie.Need-same-requires-3
 same-requires-3 c κs = search needs
 
+enum-known-numbers-3 : tie.Need-enum-known-numbers-3
+enum-known-numbers-3 c = search needs
+
 slice-aggregate-same-4 : tie.Need-slice-aggregate-same-4
 slice-aggregate-same-4 c = search needs
 
 same-requires-4 : tie.Need-same-requires-4
 same-requires-4 c κs = search needs
+
+slice-aggregate-same-5 : tie.Need-slice-aggregate-same-5
+slice-aggregate-same-5 c = search needs
+
+same-requires-5 : tie.Need-same-requires-5
+same-requires-5 c κs = search needs
 
 enum-told-2 : tie.Need-enum-told-2
 enum-told-2 c = search needs
@@ -53,37 +59,47 @@ returns-2 c = rw (c .before .before .before .before .numbers .given .1, ← c .b
 
 returns-3 : tie.Need-returns-3
 unfolding asked
-returns-3 c = rw (c .before .before .before .before .numbers .given .1, ← c .before .same .ensures, c .if1 .left)
+returns-3 c =
+    let p = c .before .before .before in
+    let n = p .before .before .before .before .numbers in
+    rw (n .given .1, ← p .before .same .ensures, p .if1 .left, ← c .before .same2 .ensures, c .if2 .taken)
 
 returns-4 : tie.Need-returns-4
 unfolding asked
-returns-4 c = rw (c .before .before .before .before .numbers2 .given .1, ← c .before .same2 .ensures, c .if2 .taken)
+returns-4 c =
+    let p = c .before .before .before in
+    let n = p .before .before .before .before .numbers in
+    rw (n .given .1, ← p .before .same .ensures, p .if1 .left, ← c .before .same2 .ensures, c .if2 .left)
 
 returns-5 : tie.Need-returns-5
 unfolding asked
-returns-5 c = rw (c .before .before .before .before .numbers2 .given .1, ← c .before .same2 .ensures, c .if2 .left)
+returns-5 c = rw (c .before .before .before .before .numbers2 .given .1, ← c .before .same3 .ensures, c .if3 .taken)
 
 returns-6 : tie.Need-returns-6
 unfolding asked
-returns-6 c = rw (c .before .before .before .before .numbers3 .given .1, ← c .before .same3 .ensures, c .if3 .taken)
+returns-6 c = rw (c .before .before .before .before .numbers2 .given .1, ← c .before .same3 .ensures, c .if3 .left)
 
 returns-7 : tie.Need-returns-7
 unfolding asked
-returns-7 c =
-    let p = c .before .before .before in
-    let n = p .before .before .before .before .numbers3 in
-    rw (n .given .1, ← p .before .same3 .ensures, p .if3 .left, ← c .before .same4 .ensures, c .if4 .taken)
+returns-7 c = rw (c .before .before .before .before .numbers3 .given .1, ← c .before .same4 .ensures, c .if4 .taken)
 
 returns-8 : tie.Need-returns-8
 unfolding asked
 returns-8 c =
     let p = c .before .before .before in
     let n = p .before .before .before .before .numbers3 in
-    rw (n .given .1, ← p .before .same3 .ensures, p .if3 .left, ← c .before .same4 .ensures, c .if4 .left)
+    rw (n .given .1, ← p .before .same4 .ensures, p .if4 .left, ← c .before .same5 .ensures, c .if5 .taken)
 
 returns-9 : tie.Need-returns-9
 unfolding asked
-returns-9 c = rw (c .enum-told2 .given .1)
+returns-9 c =
+    let p = c .before .before .before in
+    let n = p .before .before .before .before .numbers3 in
+    rw (n .given .1, ← p .before .same4 .ensures, p .if4 .left, ← c .before .same5 .ensures, c .if5 .left)
+
+returns-10 : tie.Need-returns-10
+unfolding asked
+returns-10 c = rw (c .enum-told2 .given .1)
 
 pub asked-spec : {M : Type 1} → statement M
 asked-spec =
@@ -93,14 +109,16 @@ asked-spec =
     enum-known-numbers
     slice-aggregate-same
     same-requires
-    enum-known-numbers-2
     slice-aggregate-same-2
     same-requires-2
-    enum-known-numbers-3
+    enum-known-numbers-2
     slice-aggregate-same-3
     same-requires-3
+    enum-known-numbers-3
     slice-aggregate-same-4
     same-requires-4
+    slice-aggregate-same-5
+    same-requires-5
     enum-told-2
     returns
     returns-2
@@ -110,4 +128,5 @@ asked-spec =
     returns-6
     returns-7
     returns-8
-    returns-9)
+    returns-9
+    returns-10)

@@ -23,18 +23,18 @@ sub-travel c =
 
 add-departure : tie.Need-add-departure
 add-departure c =
-    let s = c .before .before .before in
-    omega (arith, c .before .scheduled-departure .ensures, scheduled-early _ _ (s .pre .0 .0) _ (s .pre .0 .1), s .pre .1)
+    let s = c .before .before .before .before in
+    omega (arith, c .before .before .scheduled-departure .ensures, scheduled-early _ _ (s .pre .0 .0) _ (s .pre .0 .1), s .pre .1)
 
 stays-aboard-requires : tie.Need-stays-aboard-requires
-stays-aboard-requires c κs = let s = c .before .before .before in connection-room (s .pre .0 .0) _ (s .pre .0 .1)
+stays-aboard-requires c κs = let s = c .before .before .before .before in connection-room (s .pre .0 .0) _ (s .pre .0 .1)
 
 -- when it departs: one of three ways led there
-departs : (c : tie.After-row-known) → let s = c .before .before .before .before .before .before in
-    c .before .if1 .departure ≡ departsAt (s .args .file .now) (s .args .c) (s .args .delay) (s .args .before)
+departs : (c : tie.After-row-known) → let s = c .before .before .before .before .before .before .before in
+    c .before .if1 .departure ≡ departsAt (s .args .file .now) (s .args .c) (s .args .primary) (s .args .before)
 departs c =
     let b = c .before .before in
-    rw (← b .stays-aboard .ensures, ← b .before .before .scheduled-departure .ensures)
+    rw (← b .stays-aboard .ensures, ← b .before .before .before .scheduled-departure .ensures)
     (later-of (b .stays-aboard .result) _ _ _
     (⊎-elim
     (λ w. inl (w .0 .taken, w .1 .taken, w .2))
@@ -43,15 +43,15 @@ departs c =
 
 add-t9 : tie.Need-add-t9
 add-t9 c =
-    let k = c .before .before .before in
+    let k = c .before .before .before .before in
     let s = k .before .before .before in
     let f = s .args .file .now in
-    let most = later-most (staysAboard f (s .args .c)) (scheduledDeparture f (s .args .c) + s .args .delay) (s .args .before) in
+    let most = later-most (staysAboard f (s .args .c)) (scheduledDeparture f (s .args .c) + s .args .primary .delay) (s .args .before) in
     omega (arith, departs c, most, k .before .scheduled-departure .ensures, k .scheduled-arrival .ensures, scheduled-early _ _ (s .pre .0 .0) _ (s .pre .0 .1), s .pre .1)
 
 returns : tie.Need-returns
 returns c =
-    let k = c .before .before .before in
+    let k = c .before .before .before .before in
     record { departs = departs c; arrives = omega (arith, k .before .scheduled-departure .ensures, k .scheduled-arrival .ensures) }
 
 pub times-at-spec : {M : Type 1} → statement M

@@ -2,9 +2,10 @@
 use borrow.Author.Needs.{needs}
 use mathlib.Core.Path.{refl}
 use Rattle.model.specs.Day.{dayOf, lent}
-use Rattle.lines.specs.Lines.{posted, withdrawn}
+use Rattle.lines.specs.Lines.{posted, withdrawn, margin}
+use Rattle.replies.specs.Replies.{sayWhy}
 use Rattle.turns.specs.Turns.{state, turnOf}
-use Rattle.turns.proofs.Turns.{changing-performed, enquiring-performed, margin-performed}
+use Rattle.turns.proofs.Turns.{changing-performed, enquiring-performed, telling-performed}
 use Rattle.turns.proofs.perform.Statement.{statement}
 use Rattle.turns.proofs.perform.Tie as tie
 use Rattle.replies.proofs.arrival_reply.Reads as arrival-reply-reads
@@ -51,6 +52,15 @@ margin-requires c κs = search needs
 
 margin-reply-requires : tie.Need-margin-reply-requires
 margin-reply-requires c κs = search needs
+
+enum-known-command-5 : tie.Need-enum-known-command-5
+enum-known-command-5 c = search needs
+
+why-requires : tie.Need-why-requires
+why-requires c κs = search needs
+
+why-reply-requires : tie.Need-why-reply-requires
+why-reply-requires c κs = search needs
 
 enum-told : tie.Need-enum-told
 enum-told c = search needs
@@ -118,11 +128,23 @@ returns-4 c =
     let m = c .before .before .before .before .before in
     let a = m .before .before .before .before .before .before .before .args in
     let s = state (lent (a .notices .now) (a .graph .now)) (a .work .now) (a .journey .now) in
-    rw (m .command4 .given .1) (margin-performed s (c .before .margin .ensures .answer) (c .margin-reply .ensures))
+    rw (m .command4 .given .1) (telling-performed s margin (c .before .margin .ensures .answer) (c .margin-reply .ensures))
+
+same-length-11 : tie.Need-same-length-11
+same-length-11 c = search needs
 
 returns-5 : tie.Need-returns-5
 unfolding turnOf
-returns-5 c = rw (c .enum-told .given .1) (record { is = refl; fits = tt })
+returns-5 c =
+    let m = c .before .before .before .before in
+    let a = m .before .before .before .before .before .before .before .args in
+    let s = state (lent (a .notices .now) (a .graph .now)) (a .work .now) (a .journey .now) in
+    let asked = m .command5 .given .0 .0 in
+    rw (m .command5 .given .1) (telling-performed s (sayWhy asked) (c .before .why .ensures) (c .why-reply .ensures))
+
+returns-6 : tie.Need-returns-6
+unfolding turnOf
+returns-6 c = rw (c .enum-told .given .1) (record { is = refl; fits = tt })
 
 pub perform-spec : {M : Type 1} → statement M
 perform-spec =
@@ -140,6 +162,9 @@ perform-spec =
     enum-known-command-4
     margin-requires
     margin-reply-requires
+    enum-known-command-5
+    why-requires
+    why-reply-requires
     enum-told
     same-length
     same-length-2
@@ -155,4 +180,6 @@ perform-spec =
     same-length-9
     same-length-10
     returns-4
-    returns-5)
+    same-length-11
+    returns-5
+    returns-6)

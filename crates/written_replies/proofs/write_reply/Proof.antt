@@ -12,6 +12,7 @@ use Rattle.arrivals.proofs.write_arrival.Reads as write-arrival-reads
 use Rattle.lines.proofs.write_margin.Reads as write-margin-reads
 use Rattle.lines.proofs.write_posted.Reads as write-posted-reads
 use Rattle.lines.proofs.write_refusal.Reads as write-refusal-reads
+use Rattle.lines.proofs.write_why.Reads as write-why-reads
 use Rattle.lines.proofs.write_withdrawn.Reads as write-withdrawn-reads
 
 enum-known-reply : tie.Need-enum-known-reply
@@ -55,6 +56,12 @@ write-margin-requires c κs = search needs
 enum-known-reply-5 : tie.Need-enum-known-reply-5
 enum-known-reply-5 c = search needs
 
+write-why-requires : tie.Need-write-why-requires
+write-why-requires c κs = search needs
+
+enum-known-reply-6 : tie.Need-enum-known-reply-6
+enum-known-reply-6 c = search needs
+
 write-refusal-requires : tie.Need-write-refusal-requires
 write-refusal-requires c κs = search needs
 
@@ -96,7 +103,14 @@ same-length-5 c = search needs
 
 returns-5 : tie.Need-returns-5
 unfolding textOf
-returns-5 c = rw (c .before .before .before .before .before .reply5 .given .1) (c .before .before .write-refusal .ensures)
+returns-5 c = rw (c .before .before .before .before .before .reply5 .given .1) (c .before .before .write-why .ensures)
+
+same-length-6 : tie.Need-same-length-6
+same-length-6 c = search needs
+
+returns-6 : tie.Need-returns-6
+unfolding textOf
+returns-6 c = rw (c .before .before .before .before .before .reply6 .given .1) (c .before .before .write-refusal .ensures)
 
 pub write-reply-spec : {M : Type 1} → statement M
 write-reply-spec =
@@ -115,6 +129,8 @@ write-reply-spec =
     enum-known-reply-4
     write-margin-requires
     enum-known-reply-5
+    write-why-requires
+    enum-known-reply-6
     write-refusal-requires
     same-length
     returns
@@ -125,4 +141,6 @@ write-reply-spec =
     same-length-4
     returns-4
     same-length-5
-    returns-5)
+    returns-5
+    same-length-6
+    returns-6)

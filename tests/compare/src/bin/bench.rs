@@ -7,7 +7,7 @@
 //! bench operations: their names.
 
 use compare::calls::{Call, Conversion, Side, BUILD, CHECK, ENQUIRE, EXPORT, IMPORT, MARGIN};
-use compare::calls::{OPERATIONS, POST, WITHDRAW};
+use compare::calls::{OPERATIONS, POST, WHY, WITHDRAW};
 use compare::gen::{day, dense, timetable, Rng, Style};
 use compare::sides::{FAST, LIBRARY};
 use std::hint::black_box;
@@ -19,7 +19,7 @@ const STANDING: [usize; 3] = [0, 3, 200];
 /// Connections where all leave in one minute.
 const DENSE_SIZE: usize = 2000;
 /// Calls of each operation in a sample with one timetable.
-const REPEATS: [usize; OPERATIONS.len()] = [4, 2, 1, 1, 2, 2, 1, 1];
+const REPEATS: [usize; OPERATIONS.len()] = [4, 2, 1, 1, 2, 2, 4, 1, 1];
 /// The number that is posted and withdrawn; it sorts into the middle of the others.
 const NUMBER: u16 = 30_000;
 /// Bytes of the longest export.
@@ -164,6 +164,7 @@ impl Setup {
                 let ride = rng.below(self.c) as u16;
                 Call::Margin(ride, ride / 2)
             }
+            WHY => Call::Why(rng.below(self.c) as u16),
             IMPORT => return Task::Convert(Conversion::Import),
             EXPORT => return Task::Convert(Conversion::Export),
             _ => unreachable!("a place of OPERATIONS"),
@@ -199,7 +200,7 @@ impl Setup {
         let areas = match call {
             Call::Build => &mut self.fresh,
             Call::Post(..) | Call::Withdraw(..) => &mut self.base,
-            Call::Check | Call::Enquire(..) | Call::Margin(..) => &mut self.full,
+            Call::Check | Call::Enquire(..) | Call::Margin(..) | Call::Why(..) => &mut self.full,
         };
         let answer = black_box(areas.call(side, &self.file, call));
         if let Call::Post(number, ..) | Call::Withdraw(number) = call {

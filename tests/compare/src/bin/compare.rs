@@ -39,6 +39,10 @@ fn main() -> ExitCode {
         t.count_answers();
         println!("{name}: answers seen, as number:times with 0 for accepted");
         println!("{}", t.answers().join("\n"));
+        let [none, one, largest, lowest] = t.told;
+        println!(
+            "why of runs: no notice {none}, one {one}, largest delay of several {largest}, several with it {lowest}"
+        );
         for note in &t.notes {
             println!("MISMATCH {note}");
         }

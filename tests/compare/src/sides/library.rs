@@ -58,6 +58,13 @@ mod c {
             ride: u16,
             next: u16,
         ) -> i64;
+        pub fn ttg_why(
+            file: *const u8,
+            file_len: usize,
+            notices: *const u8,
+            notices_len: usize,
+            ride: u16,
+        ) -> u64;
         pub fn ttg_import(
             text: *const u8,
             text_len: usize,
@@ -70,7 +77,7 @@ mod c {
     }
 }
 
-// SAFETY, for all eight: pointer and length come from one slice each, the slices live through
+// SAFETY, for all nine: pointer and length come from one slice each, the slices live through
 // the call, and mutable ones overlap nothing.
 
 fn check(file: &[u8]) -> u64 {
@@ -172,6 +179,18 @@ fn margin(file: &[u8], notices: &[u8], graph: &[u8], ride: u16, next: u16) -> i6
     }
 }
 
+fn why(file: &[u8], notices: &[u8], ride: u16) -> u64 {
+    unsafe {
+        c::ttg_why(
+            file.as_ptr(),
+            file.len(),
+            notices.as_ptr(),
+            notices.len(),
+            ride,
+        )
+    }
+}
+
 fn import(text: &[u8], change: &[u8], file: &mut [u8]) -> i64 {
     let answer = unsafe {
         c::ttg_import(
@@ -199,6 +218,7 @@ fn call(file: &[u8], [n, g, w, j]: Lent, call: Call) -> i64 {
         Call::Withdraw(number) => withdraw(file, n, g, number) as i64,
         Call::Enquire(from, to, time) => enquire(file, n, g, w, j, from, to, time) as i64,
         Call::Margin(ride, next) => margin(file, n, g, ride, next),
+        Call::Why(ride) => why(file, n, ride) as i64,
     }
 }
 

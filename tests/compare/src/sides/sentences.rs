@@ -180,12 +180,24 @@ fn notice_area(notices: &[Notice]) -> Vec<usize> {
     [notices.len()].into_iter().chain(rows).collect()
 }
 
+/// A ride's own delay, as a pair: the delay and the number of the notice that gives it. The largest
+/// delay among the notices that stand for this ride and, of the notices that have it, the lowest
+/// number; 0 and 0 where none stands.
+fn own_delay(notices: &[Notice], ride: usize) -> (usize, usize) {
+    let of_ride: Vec<&Notice> = notices.iter().filter(|n| n.ride == ride).collect();
+    let Some(largest) = of_ride.iter().map(|n| n.delay).max() else {
+        return (0, 0);
+    };
+    let having = of_ride.iter().filter(|n| n.delay == largest);
+    let lowest = having.map(|n| n.number).min().expect("one has it");
+    (largest, lowest)
+}
+
 /// The times in force, departure and arrival by ride.
 pub fn times(t: &Timetable, notices: &[Notice]) -> Vec<(usize, usize)> {
     let mut out: Vec<(usize, usize)> = Vec::new();
     for (i, r) in t.rides.iter().enumerate() {
-        let delays = notices.iter().filter(|n| n.ride == i).map(|n| n.delay);
-        let own = delays.max().unwrap_or(0);
+        let (own, _) = own_delay(notices, i);
         let mut dep = r.dep + own;
         if i > 0 && t.rides[i - 1].trip == r.trip {
             dep = dep.max(out[i - 1].1);
@@ -347,6 +359,7 @@ fn rides_in(call: Call) -> Vec<usize> {
     match call {
         Call::Post(_, ride, _) => vec![ride.into()],
         Call::Margin(ride, next) => vec![ride.into(), next.into()],
+        Call::Why(ride) => vec![ride.into()],
         _ => vec![],
     }
 }
@@ -355,6 +368,7 @@ fn rides_in(call: Call) -> Vec<usize> {
 fn areas_in(call: Call) -> &'static [usize] {
     match call {
         Call::Check => &[],
+        Call::Why(..) => &[NOTICES],
         Call::Build | Call::Post(..) | Call::Withdraw(..) | Call::Margin(..) => &[NOTICES, GRAPH],
         Call::Enquire(..) => &[NOTICES, GRAPH, WORK, JOURNEY],
     }
@@ -384,7 +398,8 @@ fn refused_or(
         return Ok((t, vec![]));
     }
     let list = standing(&areas[NOTICES], c)?;
-    if areas[GRAPH][..4 * c + s] != graph(&t, &list) {
+    let has_graph = areas_in(call).contains(&GRAPH);
+    if has_graph && areas[GRAPH][..4 * c + s] != graph(&t, &list) {
         return Err((24, 0));
     }
     if number_in(call) == Some(0) {
@@ -481,6 +496,10 @@ fn answer(file: &[u8], areas: &mut Lent, call: Call, lists: Lists) -> Result<i64
             let times = times(&t, &list);
             let (c, d) = (usize::from(ride), usize::from(next));
             Ok(times[d].0 as i64 - times[c].1 as i64 - t.change[t.rides[c].to] as i64)
+        }
+        Call::Why(ride) => {
+            let (delay, notice) = own_delay(&list, ride.into());
+            Ok(delay as i64 + 65536 * notice as i64)
         }
     }
 }
