@@ -1,4 +1,6 @@
 // The check of a timetable file: any byte slice is accepted with its counts, or refused with a number and a place.
+#![tactic(auto)]
+
 ghost use Rattle.std.specs.Prelude.{◌≡◌, ◌+◌, ◌*◌, ◌≤◌, length};
 ghost use Rattle.timetable.specs.Answers.{first_below};
 ghost use Rattle.timetable.specs.File.{header_length, marked};

@@ -1,4 +1,6 @@
 // The parts of the graph area, each filled where it lies.
+#![tactic(auto)]
+
 ghost use Rattle.std.specs.Prelude.{◌≡◌, ◌++◌, ◌+◌, ◌*◌, ◌≤◌, length, drop};
 ghost use Rattle.model.specs.Day.{day_of};
 ghost use Rattle.model.specs.Notices.{rows_of, Standing};

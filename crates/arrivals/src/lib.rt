@@ -1,4 +1,6 @@
 // The line of an arrival written: the time and the connections of the journey in, bytes out.
+#![tactic(auto)]
+
 ghost use Rattle.std.specs.Prelude.{◌+◌, ◌≤◌, length};
 ghost use Rattle.decimals.specs.Written.{Written};
 ghost use Rattle.labels.specs.Room.{LineIs};

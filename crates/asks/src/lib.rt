@@ -1,4 +1,6 @@
 // What a posting and a withdrawal ask of their own numbers: refusals 12 to 14 and 25 to 27.
+#![tactic(auto)]
+
 ghost use Rattle.std.specs.Prelude.{◌≡◌, ℕ};
 ghost use Rattle.model.specs.Notices.{rows_of, Standing};
 ghost use Rattle.model.specs.Parts.{asked_verdict, posting_asks, withdrawal_asks};

@@ -1,5 +1,7 @@
 // What a timetable tells beside the graph area's entries: on which board a departure is listed, and when a passenger is ready to leave
 // again.
+#![tactic(auto)]
+
 ghost use Rattle.std.specs.Prelude.{◌≡◌};
 ghost use Rattle.timetable.specs.Room.{HasConnection};
 ghost use Rattle.boards.specs.Timed.{board_in, ready_in, ReadyRoom};

@@ -1,4 +1,6 @@
 // Building: an empty notice area and the graph without notices.
+#![tactic(auto)]
+
 ghost use Rattle.std.specs.Prelude.{◌≡◌, []};
 ghost use Rattle.timetable.specs.Accepted.{Opened};
 ghost use Rattle.timetable.specs.Check.{told_counts};

@@ -1,4 +1,6 @@
 // Why on an area of bytes: its front is read into numbers; the answer is a number.
+#![tactic(auto)]
+
 ghost use Rattle.std.specs.Prelude.{◌≡◌, length};
 ghost use Rattle.numbers.specs.Numbers.{numbers_of};
 ghost use Rattle.model.specs.Notices.{notices_length};

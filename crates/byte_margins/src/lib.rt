@@ -1,4 +1,6 @@
 // Margins on areas of bytes: the fronts are read into numbers; the answer is a number.
+#![tactic(auto)]
+
 ghost use Rattle.std.specs.Prelude.{◌≡◌};
 ghost use Rattle.model.specs.Notices.{notices_length};
 ghost use Rattle.model.specs.Day.{day_of};

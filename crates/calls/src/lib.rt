@@ -1,4 +1,6 @@
 // A posting or a withdrawal: what it asks, what it does to the notices and the number that it answers.
+#![tactic(auto)]
+
 ghost use Rattle.std.specs.Prelude.{◌≡◌, ℕ};
 ghost use Rattle.timetable.specs.declared.Verdict.TheVariants.{Passed};
 ghost use Rattle.model.specs.Notices.{area_with, rows_of, Standing};
@@ -8,7 +10,7 @@ ghost use Rattle.calls.specs.Call.{asks_of, standing_after, number_in};
 use timetable::Verdict;
 
 // A posting with number, connection and delay, or a withdrawal of a number.
-#[derive(Drop)]
+#[derive(Clone, Copy)]
 pub enum Call {
     Post(u16, u16, u16),
     Withdraw(u16),

@@ -1,4 +1,6 @@
 // Why a connection is late: its primary delay and the notice that gives it.
+#![tactic(auto)]
+
 ghost use Rattle.std.specs.Prelude.{◌≡◌, ℕ, ◌<◌};
 ghost use Rattle.timetable.specs.Answers.{refused};
 ghost use Rattle.timetable.specs.Check.{max_connections, told_counts};
@@ -11,7 +13,7 @@ use model::{PrimaryDelay, refusal};
 use timetable::{Checked, Verdict};
 
 // The answer of why: the primary delay, or the refusal's number and place.
-#[derive(Drop)]
+#[derive(Clone, Copy)]
 pub enum Explained {
     Primary(PrimaryDelay),
     Refused(u16, u16),

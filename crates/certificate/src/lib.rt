@@ -1,6 +1,8 @@
 // The check of a handed-in graph area whose times stand: its own lists are the certificate. A mark for each connection says
 // by which link it is reached, a mark for each board which departure is not followed by another; with both each transfer entry
 // is checked by itself.
+#![tactic(auto)]
+
 ghost use Rattle.model.specs.Shown.{shown};
 ghost use Rattle.boards.specs.Timed.{Timed};
 ghost use Rattle.links.specs.Telling.{Tells, FirstsLinked, NextsLinked};

@@ -1,4 +1,6 @@
 // The transfer times of stops as a text: one decimal a line, the place being the stop.
+#![tactic(auto)]
+
 ghost use Rattle.std.specs.Prelude.{◌<◌, ◌≤◌, length};
 ghost use Rattle.labels.specs.Room.{LineIs};
 ghost use Rattle.change_lists.specs.ChangeText.{LineRead, ChangesRead, ChangesFit, changes_text};
@@ -6,14 +8,14 @@ ghost use Rattle.change_lists.specs.ChangeText.{LineRead, ChangesRead, ChangesFi
 use decimals::Number;
 
 // What a text of transfer times is: so many bytes of numbers, or its first line, from 1 on, that is no decimal.
-#[derive(Drop)]
+#[derive(Clone, Copy)]
 pub enum Changes {
     Bytes(usize),
     Wrong(usize),
 }
 
 // A line of such a text: a number and where the next line starts, or no decimal that a newline ends.
-#[derive(Drop)]
+#[derive(Clone, Copy)]
 pub enum Line {
     Number(u16, usize),
     Wrong,

@@ -1,4 +1,6 @@
 // A transfer entry of a handed-in graph area, checked by the marks of its links.
+#![tactic(auto)]
+
 ghost use Rattle.std.specs.Prelude.{◌<◌};
 ghost use Rattle.boards.specs.Timed.{Timed};
 ghost use Rattle.links.specs.Telling.{NextsLinked};

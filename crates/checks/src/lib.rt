@@ -1,4 +1,6 @@
 // The refusals of both areas, 21 to 24, and the counts of a timetable whose areas pass.
+#![tactic(auto)]
+
 ghost use Rattle.std.specs.Prelude.{◌≡◌};
 ghost use Rattle.timetable.specs.Accepted.{Timetable};
 ghost use Rattle.timetable.specs.Check.{told_counts};

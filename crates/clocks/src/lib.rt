@@ -1,4 +1,6 @@
 // A time of day read.
+#![tactic(auto)]
+
 ghost use Rattle.std.specs.Prelude.{◌≡◌, true, length};
 ghost use Rattle.decimals.specs.Decimal.{is_digit};
 ghost use Rattle.gtfs.specs.Clock.{is_clock_end, minute_of, time_of};

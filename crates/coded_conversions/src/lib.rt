@@ -1,4 +1,6 @@
 // Import and export with their answers as numbers for C: number + 65536 * value, as those of the other operations.
+#![tactic(auto)]
+
 ghost use Rattle.std.specs.Prelude.{◌≡◌};
 ghost use Rattle.gtfs.specs.Conversions.{imported, exported, told_bytes};
 ghost use Rattle.coded_conversions.specs.Coded.{coded_bytes, ConversionCoded};

@@ -1,4 +1,6 @@
 // Building, posting and withdrawing, with the answer as a number.
+#![tactic(auto)]
+
 ghost use Rattle.std.specs.Prelude.{◌≡◌};
 ghost use Rattle.timetable.specs.Answers.{is_accepted};
 ghost use Rattle.timetable.specs.Check.{told_counts};
@@ -11,7 +13,7 @@ use graph::Noted;
 use timetable::Checked;
 
 // What is done to both areas.
-#[derive(Drop)]
+#[derive(Clone, Copy)]
 pub enum Update {
     Build,
     // number, connection, delay
@@ -21,7 +23,7 @@ pub enum Update {
 }
 
 // An update's answer as a number, and whether it was accepted.
-#[derive(Drop)]
+#[derive(Clone, Copy)]
 pub struct Worked {
     pub code: u64,
     pub accepted: bool,

@@ -20,18 +20,18 @@ mag_scaled (negsuc n) = omega (arith, mag_neg (number_size * suc n))
 
 module _ (z : ℤ) (h : mag z < 2 ^ 31) where
   read_back : to_z w32 (of_z w32 z) ≡ z
-  read_back = to_z-of_z (record { sfits = h })
+  read_back = to_z-of_z {w = w32} (record { sfits = h })
 
   -- the cast to 64 bits
   pub wide_fits : SFits w64 (to_z w32 (of_z w32 z))
   wide_fits = rw read_back (record { sfits = omega arith })
 
   wide : to_z w64 (of_z w64 (to_z w32 (of_z w32 z))) ≡ z
-  wide = to_z-of_z wide_fits ∙ read_back
+  wide = to_z-of_z {w = w64} wide_fits ∙ read_back
 
   -- the product
   pub scaled_fits : SFits w64 (pos number_size *ℤ to_z w64 (of_z w64 (to_z w32 (of_z w32 z))))
   scaled_fits = rw wide (record { sfits = omega (arith, mag_scaled z) })
 
   pub scaled : to_z w64 (of_z w64 (pos number_size *ℤ to_z w64 (of_z w64 (to_z w32 (of_z w32 z))))) ≡ pos number_size *ℤ z
-  scaled = to_z-of_z scaled_fits ∙ rw wide
+  scaled = to_z-of_z {w = w64} scaled_fits ∙ rw wide

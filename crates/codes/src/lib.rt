@@ -1,5 +1,7 @@
 // The library's answers as numbers for C. An answer is number + 65536 * value: the number is 0 for an accepted call, else the
 // refusal's, with its place for a value.
+#![tactic(auto)]
+
 ghost use Rattle.std.specs.Prelude.{◌≡◌};
 ghost use Rattle.timetable.specs.Answers.{is_accepted};
 ghost use Rattle.timetable.specs.Check.{told_counts};

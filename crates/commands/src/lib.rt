@@ -1,4 +1,6 @@
 // A command line read: bytes in, a command out.
+#![tactic(auto)]
+
 ghost use Rattle.std.specs.Prelude.{◌≡◌, map};
 ghost use Rattle.decimals.specs.Decimal.{decimal};
 ghost use Rattle.commands.specs.Words.{words, spaced_words};

@@ -1,4 +1,6 @@
 // A connection of a timetable file tested alone and against the one before it, test by test: refusals 8 to 11.
+#![tactic(auto)]
+
 ghost use Rattle.std.specs.Prelude.{◌≡◌, ◌-◌, ◌<◌};
 ghost use Rattle.timetable.specs.Room.{HasConnection};
 ghost use Rattle.timetable.specs.Check.{wrong_stops, wrong_trip, wrong_times, breaks_off, wrong_join};

@@ -1,4 +1,6 @@
 // The connections of a timetable file, each one tested alone and against the one before it: refusals 8 to 11.
+#![tactic(auto)]
+
 ghost use Rattle.std.specs.Prelude.{◌≡◌, ◌<◌};
 ghost use Rattle.timetable.specs.Answers.{is_passed, first_below};
 ghost use Rattle.timetable.specs.Room.{HasConnection, HasConnections};

@@ -1,10 +1,15 @@
 // The desk: the timetable from the file day.ttg, then the commands from standard input, each with its answer. What is said is the
 // dialogue's; files are read and written by `streams`, and what is read and written no contract can say.
+#![tactic(auto)]
+
 ghost use Rattle.std.specs.Prelude.{◌≤◌, length};
 ghost use Rattle.timetable.specs.Check.{max_connections};
 ghost use Rattle.labels.specs.Room.{line_room};
 ghost use Rattle.streams.specs.Room.{InBlock};
 
+use std::io;
+use std::io::{Eprint, Print, Read};
+use std::rt::Files;
 use streams::Input;
 
 // Room for the file: one byte more than the longest timetable has.
@@ -21,6 +26,8 @@ const OUT_ROOM: usize = BLOCK_ROOM + dialogue::ANSWER_ROOM;
 
 // Works the input as far as there is room for the answers, and writes them; the input to go on with.
 fn round(
+    rt: &(impl Print + Eprint),
+    reader: &mut impl Read,
     file: &[u8],
     notices: &mut [u16],
     graph: &mut [u16],
@@ -36,12 +43,14 @@ fn round(
     let at = input.at;
     let end = input.end;
     let done = dialogue::work_block(file, notices, graph, work, journey, out, &block[at..end]);
-    let written = streams::print(out, done.size);
-    streams::next_input(block, at + done.at, end, written, done.full)
+    let written = streams::print(rt, out, done.size);
+    streams::next_input(rt, reader, block, at + done.at, end, written, done.full)
 }
 
 // Answers the lines of standard input that a newline ends; whether a last line comes after them.
 fn work_lines(
+    rt: &(impl Print + Eprint),
+    reader: &mut impl Read,
     file: &[u8],
     notices: &mut [u16],
     graph: &mut [u16],
@@ -59,7 +68,9 @@ fn work_lines(
     };
     let mut left = u64::MAX;
     while left > 0 {
-        input = round(file, notices, graph, work, journey, out, block, input);
+        input = round(
+            rt, reader, file, notices, graph, work, journey, out, block, input,
+        );
         if !input.going {
             return input.end > 0;
         }
@@ -69,32 +80,47 @@ fn work_lines(
 }
 
 // Answers a last line that no newline ends.
-fn work_last(out: &mut [u8])
+fn work_last(rt: &(impl Print + Eprint), out: &mut [u8])
     requires { line_room ≤ length out.old }
 {
     let n = ends::work_unended(out);
-    streams::print(out, n);
+    streams::print(rt, out, n);
 }
 
 // Builds and prints the counts or the refusal; whether the timetable is accepted and that is printed.
-fn begin(file: &[u8], notices: &mut [u16], graph: &mut [u16], out: &mut [u8]) -> bool
+fn begin(
+    rt: &(impl Print + Eprint),
+    file: &[u8],
+    notices: &mut [u16],
+    graph: &mut [u16],
+    out: &mut [u8],
+) -> bool
     requires { line_room ≤ length out.old }
 {
     let begun = ends::begin(file, notices, graph, out);
-    if !streams::print(out, begun.size) {
+    if !streams::print(rt, out, begun.size) {
         return false;
     }
     begun.accepted
 }
 
 // Answers standard input.
-fn work_input(file: &[u8], notices: &mut [u16], graph: &mut [u16], out: &mut [u8])
+fn work_input(
+    rt: &(impl io::Input + Print + Eprint),
+    file: &[u8],
+    notices: &mut [u16],
+    graph: &mut [u16],
+    out: &mut [u8],
+)
     requires { line_room ≤ length out.old }
 {
     let mut work = [0u16; timetable::MAX_CONNECTIONS];
     let mut journey = [0u16; timetable::MAX_CONNECTIONS];
     let mut block = [0u8; BLOCK_ROOM];
+    let mut reader = rt.reader();
     if work_lines(
+        rt,
+        &mut reader,
         file,
         notices,
         graph,
@@ -103,18 +129,18 @@ fn work_input(file: &[u8], notices: &mut [u16], graph: &mut [u16], out: &mut [u8
         out,
         &mut block,
     ) {
-        work_last(out);
+        work_last(rt, out);
     }
 }
 
 // The whole desk.
-pub fn run() {
+pub fn run(rt: &(impl Files + io::Input + Print + Eprint)) {
     let mut file = [0u8; FILE_ROOM];
-    let n = streams::load(&mut file);
+    let n = streams::load(rt, &mut file);
     let mut notices = [0u16; model::NOTICES_LENGTH];
     let mut graph = [0u16; model::MOST_GRAPH];
     let mut out = [0u8; OUT_ROOM];
-    if begin(&file[0..n], &mut notices, &mut graph, &mut out) {
-        work_input(&file[0..n], &mut notices, &mut graph, &mut out);
+    if begin(rt, &file[0..n], &mut notices, &mut graph, &mut out) {
+        work_input(rt, &file[0..n], &mut notices, &mut graph, &mut out);
     }
 }

@@ -1,4 +1,6 @@
 // A text cut at a byte, and whether it starts with another.
+#![tactic(auto)]
+
 ghost use Rattle.std.specs.Prelude.{◌≡◌, ◌+◌, ◌≤◌, length, drop};
 ghost use Rattle.cuts.specs.Cut.{before, starts_with};
 

@@ -1,4 +1,6 @@
 // Numbers in decimal: a word read as a number, a number written into an area.
+#![tactic(auto)]
+
 ghost use Rattle.std.specs.Prelude.{◌≡◌, ◌+◌, ◌≤◌, length};
 ghost use Rattle.decimals.specs.Decimal.{decimal, decimal_of};
 ghost use Rattle.decimals.specs.Written.{Written};
@@ -9,7 +11,7 @@ const MAX_DIGITS: usize = 5;
 const MAX_NUMBER: u32 = 65535;
 
 // What a word is: a number, or none that can be read.
-#[derive(Drop)]
+#[derive(Clone, Copy)]
 pub enum Number {
     Is(u16),
     Unread,

@@ -1,4 +1,6 @@
 // The connections' primary delays, each with the notice that gives it, by the rows that stand.
+#![tactic(auto)]
+
 ghost use Rattle.std.specs.Prelude.{◌≡◌, ℕ, length};
 ghost use Rattle.model.specs.Notices.{notice, rows_of, Standing};
 ghost use Rattle.model.specs.Times.{prevails, given_by, with_notice};

@@ -1,4 +1,6 @@
 // The desk program, run on the example.
-fn main() {
-    console::run();
+#![tactic(auto)]
+
+fn main(rt: HostRuntime) {
+    console::run(&rt);
 }

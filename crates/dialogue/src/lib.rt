@@ -1,4 +1,6 @@
 // The dialogue of the desk: the lines of a block in, the lines of their answers out. No input and no output.
+#![tactic(auto)]
+
 ghost use Rattle.std.specs.Prelude.{◌≤◌, length, drop};
 ghost use Rattle.timetable.specs.Check.{max_connections};
 ghost use Rattle.model.specs.Day.{day_of, lent};
@@ -13,7 +15,7 @@ pub const ANSWER_ROOM: usize = arrivals::EMPTY_JOURNEY_ROOM
     + arrivals::CONNECTION_ROOM * timetable::MAX_CONNECTIONS;
 
 // How far a block is worked, how many bytes the answers have, and whether there is no room for another.
-#[derive(Drop)]
+#[derive(Clone, Copy)]
 pub struct Progress {
     pub at: usize,
     pub size: usize,

@@ -1,4 +1,6 @@
 // The graph area, filled for a timetable and the notices that stand.
+#![tactic(auto)]
+
 ghost use Rattle.std.specs.Prelude.{◌≡◌, ◌≤◌, length};
 ghost use Rattle.model.specs.Day.{day_of};
 ghost use Rattle.model.specs.Notices.{rows_of, Standing};

@@ -1,4 +1,6 @@
 // The two ends of the dialogue: the first answer, to the timetable, and the last, to a line that no newline ends. No input and no output.
+#![tactic(auto)]
+
 ghost use Rattle.std.specs.Prelude.{◌≡◌, true, List, ℕ, ◌≤◌, length};
 ghost use Rattle.model.specs.Day.{Day, day_of, lent};
 ghost use Rattle.model.specs.Operations.{built};

@@ -1,4 +1,6 @@
 // A whole run, and then an enquiry.
+#![tactic(auto)]
+
 ghost use Rattle.timetable.specs.Check.{told_counts};
 ghost use Rattle.model.specs.Day.{day_of, lent};
 ghost use Rattle.model.specs.Operations.{enquiry};
@@ -9,7 +11,7 @@ use journeys::Enquired;
 use timetable::Checked;
 
 // The answers of a building, and of an enquiry after the run.
-#[derive(Drop)]
+#[derive(Clone, Copy)]
 pub struct Told {
     pub building: Checked,
     pub enquiry: Enquired,

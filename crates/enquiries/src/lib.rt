@@ -1,4 +1,6 @@
 // Enquiring on areas of bytes: the fronts are read into numbers, and what an enquiry finds is written back; the answer is a number.
+#![tactic(auto)]
+
 ghost use Rattle.numbers.specs.Numbers.{numbers_of};
 ghost use Rattle.model.specs.Day.{day_of};
 ghost use Rattle.model.specs.Operations.{enquired};

@@ -1,4 +1,6 @@
 // Readers of the graph area's entries. What an entry says of an accepted area is in the model's proofs/Ready and Shown.
+#![tactic(auto)]
+
 ghost use Rattle.std.specs.Prelude.{◌≡◌, ◌+◌, ◌*◌, ◌<◌, length};
 ghost use Rattle.model.specs.Graph.{departure_in, arrival_in, waiting_in, transfer_in, first_in};
 

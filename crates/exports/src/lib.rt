@@ -1,4 +1,6 @@
 // Export: stop_times.txt of a timetable file.
+#![tactic(auto)]
+
 ghost use Rattle.std.specs.Prelude.{◌≡◌, ◌++◌, length, drop};
 ghost use Rattle.decimals.specs.Written.{Written};
 ghost use Rattle.timetable.specs.Accepted.{Opened};

@@ -14,7 +14,7 @@ use Rattle.decimals.specs.Bytes.{newline, digit_zero}
 use Rattle.decimals.specs.Decimal.{value_after, value_of, decimal_of}
 use Rattle.decimals.proofs.Reading.{value_grows}
 use Rattle.decimals.proofs.Digits.{decimal_one, decimal_more, value_append}
-use Rattle.timetable.specs.File.{connections, trip, stays_aboard}
+use Rattle.timetable.specs.File.{connections, stays_aboard}
 use Rattle.timetable.specs.Accepted.{Timetable}
 use Rattle.timetable.proofs.Tests.{by_lt, by_bool, and_left, and_right}
 use Rattle.gtfs.specs.Clock.{colon, time_text}

@@ -1,4 +1,6 @@
 // The rows of a text read one after the other: refusal 31, and the connections that they make, into an area of bytes.
+#![tactic(auto)]
+
 ghost use Rattle.std.specs.Prelude.{◌≡◌, length};
 ghost use Rattle.gtfs.specs.Feed.{may_follow};
 ghost use Rattle.feeds.specs.Progress.{connections_room, alone_after, Advancing, advanced, connected};
@@ -11,7 +13,7 @@ use stop_times::Line;
 pub const CONNECTIONS_ROOM: usize = timetable::CONNECTION_LENGTH * timetable::MAX_CONNECTIONS;
 
 // What is known after some rows.
-#[derive(Drop)]
+#[derive(Clone, Copy)]
 pub struct Progress {
     // the last row, 0 before the first
     pub row: usize,
@@ -30,14 +32,14 @@ pub struct Progress {
 }
 
 // What is known after one row more and where the next line starts, or a line that is no row that may follow.
-#[derive(Drop)]
+#[derive(Clone, Copy)]
 pub enum Turn {
     On(Progress, usize),
     Wrong,
 }
 
 // What the rows of a text tell: how many connections they make, or the row to refuse.
-#[derive(Drop)]
+#[derive(Clone, Copy)]
 pub enum Rows {
     Connections(usize),
     Wrong(usize),

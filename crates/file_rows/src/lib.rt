@@ -1,4 +1,6 @@
 // The rows of stop_times.txt that a timetable file holds, connection by connection.
+#![tactic(auto)]
+
 ghost use Rattle.std.specs.Prelude.{◌≡◌};
 ghost use Rattle.gtfs.specs.Rows.{position, leaves_again, start_row, end_row};
 ghost use Rattle.file_rows.specs.Positions.{Exporting, Positioned, Following};

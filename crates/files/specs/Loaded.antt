@@ -6,4 +6,4 @@ use Rattle.files.specs.declared.Loaded.TheVariants as L
 -- no more bytes were read than an area of so many has
 abbrev pub Within : Loaded → ℕ → Type 0
 Within (L.Bytes n) room = n ≤ room
-Within L.Failed room = Unit {0}
+Within (L.Failed e) room = Unit {0}

@@ -1,5 +1,7 @@
 // Enquiring on areas of bytes with numbers lent for the fronts: these are read, and what an enquiry finds is written back; the
 // answer is a number.
+#![tactic(auto)]
+
 ghost use Rattle.numbers.specs.Numbers.{numbers_of};
 ghost use Rattle.timetable.specs.Check.{max_connections};
 ghost use Rattle.model.specs.Notices.{notices_length};

@@ -1,5 +1,7 @@
 // The fronts of areas of bytes: as many numbers as an operation can need of two areas, read into numbers that the caller lends
 // and written back.
+#![tactic(auto)]
+
 ghost use Rattle.std.specs.Prelude.{◌≡◌, ◌/◌, min};
 ghost use Rattle.fronts.specs.Fronts.{ReadBoth, WrittenBoth};
 

@@ -1,5 +1,7 @@
 // The graph layer: it checks, builds and updates the graph and the notices. What the search needs of it, it offers here: the checks
 // of handed-in areas, the readers of the graph area's entries and the order of departures.
+#![tactic(auto)]
+
 ghost use Rattle.std.specs.Prelude.{◌≡◌, ℕ};
 ghost use Rattle.timetable.specs.Answers.{refused};
 ghost use Rattle.timetable.specs.Accepted.{Opened};
@@ -31,7 +33,7 @@ pub use entries::{arrival, departure, transfer, waiting};
 pub use departures::order_departures;
 
 // The answer of a posting or a withdrawal: the notice's number, or the refusal's number and place.
-#[derive(Drop)]
+#[derive(Clone, Copy)]
 pub enum Noted {
     Accepted(u16),
     Refused(u16, u16),

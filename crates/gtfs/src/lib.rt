@@ -1,5 +1,7 @@
 // Timetables as stop_times.txt of the General Transit Feed Specification: what such a text is, the file of a text and the text of a
 // file (specs/), with the laws that give them their meaning (proofs/). The code here is types and names.
+#![tactic(auto)]
+
 pub mod refusal;
 
 // What stands between the columns of a row, and what ends it: `comma` and `newline`.
@@ -14,7 +16,7 @@ pub const HEADER_TEXT_LENGTH: usize = 58;
 pub const HOUR_MINUTES: u16 = 60;
 
 // A row of the text, in the order of its columns.
-#[derive(Drop)]
+#[derive(Clone, Copy)]
 pub struct StopTime {
     pub trip: u16,
     pub arrival: u16,
@@ -24,14 +26,14 @@ pub struct StopTime {
 }
 
 // What a line is: a row, or none that can be read.
-#[derive(Drop)]
+#[derive(Clone, Copy)]
 pub enum Row {
     Reads(StopTime),
     Unreadable,
 }
 
 // The answer of an import or an export: how many bytes were written, or the refusal's number and place. Both can pass 16 bits.
-#[derive(Drop)]
+#[derive(Clone, Copy)]
 pub enum Converted {
     Bytes(usize),
     Refused(u16, usize),

@@ -1,4 +1,6 @@
 // Gives a timetable back as stop_times.txt and change.txt.
-fn main() {
-    feed_desk::export_feed();
+#![tactic(auto)]
+
+fn main(rt: HostRuntime) {
+    feed_desk::export_feed(&rt);
 }

@@ -1,4 +1,6 @@
 // Takes a timetable from stop_times.txt and change.txt.
-fn main() {
-    feed_desk::import_feed();
+#![tactic(auto)]
+
+fn main(rt: HostRuntime) {
+    feed_desk::import_feed(&rt);
 }

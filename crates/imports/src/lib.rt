@@ -1,4 +1,6 @@
 // Import: the timetable file of stop_times.txt and of each stop's transfer time.
+#![tactic(auto)]
+
 ghost use Rattle.std.specs.Prelude.{◌≡◌, ℕ, ◌≤◌, min, length};
 ghost use Rattle.std.proofs.lemmas.List.Edits.{sets};
 ghost use Rattle.timetable.specs.Check.{max_stops};

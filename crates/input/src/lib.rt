@@ -1,4 +1,6 @@
 // The lines of an input, found in blocks of it.
+#![tactic(auto)]
+
 ghost use Rattle.std.specs.Prelude.{◌≡◌, ◌+◌, ◌-◌, ◌≤◌, min, length, take, drop};
 ghost use Rattle.input.specs.Lines.{whole_line, held_room, HeldBack};
 

@@ -1,4 +1,6 @@
 // The journey of an enquiry, read out of its predecessors: its last connection, and from there all of them.
+#![tactic(auto)]
+
 ghost use Rattle.std.specs.Prelude.{◌≡◌, ◌&&◌, ◌+◌, ◌<◌, ◌≤◌, eqb, length, take};
 ghost use Rattle.timetable.specs.File.{connections, to};
 ghost use Rattle.timetable.specs.Room.{HasConnection};
@@ -11,7 +13,7 @@ ghost use Rattle.journeys.specs.Reading.{told_arrival, read_out};
 use model::{NONE, refusal};
 
 // The answer of an enquiry: arrival and how many connections, or the refusal's number and place.
-#[derive(Drop)]
+#[derive(Clone, Copy)]
 pub enum Enquired {
     Arrives(u16, u16),
     Refused(u16, u16),

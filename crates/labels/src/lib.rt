@@ -1,5 +1,7 @@
 // Labels with their numbers, and lines of one number and of two. What is put stands in out from a place on, and the place after it is the
 // answer; a line that is written stands at the front of out, and its length is the answer.
+#![tactic(auto)]
+
 ghost use Rattle.std.specs.Prelude.{◌+◌, ◌≤◌, length};
 ghost use Rattle.decimals.specs.Written.{Written};
 ghost use Rattle.labels.specs.Labels.{labelled, number_line, pair_line};

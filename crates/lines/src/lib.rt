@@ -1,4 +1,6 @@
 // Answer lines written: numbers in, bytes out. A writer's line stands at the front of out, and its length is the answer.
+#![tactic(auto)]
+
 ghost use Rattle.std.specs.Prelude.{◌≡◌, ◌≤◌, nat_abs, length};
 ghost use Rattle.labels.specs.Room.{line_room, LineIs};
 ghost use Rattle.lines.specs.Lines.{counts_line, posted_line, withdrawn_line, refusal_line, margin_line, why_line};

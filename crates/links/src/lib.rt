@@ -1,5 +1,7 @@
 // The links of a handed-in graph area, its first departures and waiting entries, each checked by itself. A mark for each connection
 // says by which link it is reached, a mark for each board which departure is not followed by another.
+#![tactic(auto)]
+
 ghost use Rattle.std.specs.Prelude.{◌≡◌, ◌*◌, ◌<◌, ltb, length};
 ghost use Rattle.model.specs.Least.{none, key};
 ghost use Rattle.model.specs.Graph.{departure_in};

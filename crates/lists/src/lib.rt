@@ -1,5 +1,7 @@
 // Fillers of the departure lists, in linear time. A sweep over the departures from the last to the first keeps the head of each
 // board and fills the waiting entries. The first departures are the heads that such a sweep leaves.
+#![tactic(auto)]
+
 ghost use Rattle.std.specs.Prelude.{◌≡◌, ◌<◌, length, get_or, set};
 ghost use Rattle.timetable.specs.Accepted.{Opened};
 ghost use Rattle.timetable.specs.Room.{HasConnection};

@@ -3,17 +3,15 @@
 use mathlib.Core.Path.{◌≡◌, refl, sym, ◌∙◌}
 use mathlib.Core.Bool.{not, ◌||◌}
 use mathlib.Core.List.{List, []}
-use Prim.Native.Nat.{ℕ, ◌<◌, ◌≤◌}
-use native.Mathlib.Omega.{arith}
-use lib.Dec.{ltb, leb, eqb}
+use Prim.Native.Nat.{ℕ, ◌<◌}
+use lib.Dec.{leb, eqb}
 use Rattle.timetable.specs.Answers.{refuse_if}
 use Rattle.timetable.specs.File.{connections, from, to}
 use Rattle.timetable.specs.declared.Verdict.TheVariants.{Passed, Refused}
-use Rattle.timetable.proofs.Tests.{below, at_most, unequal, either}
+use Rattle.timetable.proofs.Tests.{at_most, unequal, either}
 use Rattle.timetable.proofs.Order.{Rule, rule, pass, stop, passes}
 use Rattle.model.specs.RefusalNumber as refusal
-use Rattle.model.specs.Network.{last_expected}
-use Rattle.model.specs.Parts.{asked_verdict, enquiry_asks, margin_asks}
+use Rattle.model.specs.Parts.{asked_verdict, margin_asks}
 
 -- 13, then 17
 module _ (f : List ℕ) (c d : ℕ) where

@@ -30,14 +30,14 @@ module _ (a b g : ℕ) (ha : a < 2 ^ 16) (hb : b < 2 ^ 16) (hg : g < 2 ^ 16) whe
   diff_fits = rw diff (record { sfits = omega (arith, mag_sub (pos a) b) })
 
   pub diff2 : to_z w32 (of_z w32 (to_z w32 a -ℤ to_z w32 b)) -ℤ to_z w32 g ≡ pos a -ℤ pos b -ℤ pos g
-  diff2 = rw (to_z-of_z diff_fits, to_z_pos w32 {n = g} (omega arith), diff)
+  diff2 = rw (to_z-of_z {w = w32} diff_fits, to_z_pos w32 {n = g} (omega arith), diff)
 
   pub diff2_fits : SFits w32 (to_z w32 (of_z w32 (to_z w32 a -ℤ to_z w32 b)) -ℤ to_z w32 g)
   diff2_fits = rw diff2 (record { sfits = omega (arith, mag_sub (pos a -ℤ pos b) g, mag_sub (pos a) b) })
 
   pub diff2_is : to_z w32 (of_z w32 (to_z w32 (of_z w32 (to_z w32 a -ℤ to_z w32 b)) -ℤ to_z w32 g)) ≡ pos a -ℤ pos b -ℤ pos g
-  diff2_is = to_z-of_z diff2_fits ∙ diff2
+  diff2_is = to_z-of_z {w = w32} diff2_fits ∙ diff2
 
 -- a number of 32 bits is read back as it was written
 pub read_back : (z : ℤ) → mag z < 2 ^ 31 → to_z w32 (of_z w32 z) ≡ z
-read_back z h = to_z-of_z (record { sfits = h })
+read_back z h = to_z-of_z {w = w32} (record { sfits = h })

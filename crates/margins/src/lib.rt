@@ -1,4 +1,6 @@
 // The margin of a change: by how many minutes it is made or missed.
+#![tactic(auto)]
+
 ghost use Rattle.std.specs.Prelude.{◌≡◌, [], ℕ, ◌<◌};
 ghost use Rattle.timetable.specs.Answers.{refused, answering};
 ghost use Rattle.timetable.specs.File.{connections};
@@ -14,7 +16,7 @@ use model::refusal;
 use timetable::{Checked, Verdict};
 
 // The answer of a margin: the minutes, or the refusal's number and place.
-#[derive(Drop)]
+#[derive(Clone, Copy)]
 pub enum Margined {
     Minutes(i32),
     Refused(u16, u16),

@@ -7,7 +7,7 @@ use Prim.Native.Nat.{ℕ, ◌+◌, ◌*◌, ◌-◌, ◌<◌, ◌≤◌}
 use native.Mathlib.Omega.{arith}
 use lib.ListN.{length, get_or, take}
 use lib.Seq.{ext_get_or, get_or-take, take-take, take_at, length-take-le}
-use Rattle.timetable.specs.File.{stops, connections}
+use Rattle.timetable.specs.File.{connections}
 use Rattle.model.specs.Day.{day_of, lent}
 use Rattle.model.specs.Least.{tab}
 use Rattle.model.specs.Network.{Network}

@@ -1,4 +1,6 @@
 // Whether a graph area is the one of a timetable and the notices that stand (refusal 24).
+#![tactic(auto)]
+
 ghost use Rattle.std.specs.Prelude.{◌≡◌, ◌*◌, ◌≤◌, length, take};
 ghost use Rattle.timetable.specs.File.{connections};
 ghost use Rattle.timetable.specs.Accepted.{Opened};

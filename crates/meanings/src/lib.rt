@@ -1,4 +1,6 @@
 // What a command line's first word and the numbers after it ask for.
+#![tactic(auto)]
+
 ghost use Rattle.std.specs.Prelude.{◌≡◌};
 ghost use Rattle.model.specs.Drawn.{same};
 ghost use Rattle.meanings.specs.Meanings.{with_number, asked};
@@ -6,7 +8,7 @@ ghost use Rattle.meanings.specs.Meanings.{with_number, asked};
 use decimals::Number;
 
 // What a line asks for.
-#[derive(Drop)]
+#[derive(Clone, Copy)]
 pub enum Command {
     Post(u16, u16, u16),
     Withdraw(u16),
@@ -17,7 +19,7 @@ pub enum Command {
 }
 
 // The numbers after a command's first word; Other where they are more than three or one of them cannot be read.
-#[derive(Drop)]
+#[derive(Clone, Copy)]
 pub enum Numbers {
     Zero,
     One(u16),

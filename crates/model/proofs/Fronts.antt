@@ -16,7 +16,7 @@ use Rattle.timetable.specs.Check.{file_verdict, counts_of}
 use Rattle.timetable.specs.declared.Verdict.{Verdict}
 use Rattle.timetable.specs.declared.Verdict.TheVariants.{Passed, Refused}
 use Rattle.model.specs.RefusalNumber as refusal
-use Rattle.model.specs.Notices.{Notice, room, notices_length, area_of, rows_verdict}
+use Rattle.model.specs.Notices.{Notice, notices_length, area_of, rows_verdict}
 use Rattle.model.specs.Network.{Network, Sound}
 use Rattle.model.specs.Times.{network_of}
 use Rattle.model.specs.Predecessors.{predecessors, nowhere, journey_in}

@@ -19,13 +19,24 @@ use Rattle.model.proofs.Rank.{rank_below, rank_early}
 use Rattle.model.proofs.Follows.{first_means, follows_later}
 use Rattle.model.proofs.Rounds.{predecessor_is, length_predecessors, numbered}
 
+-- the same of lists that are the two exchanged
+not_after_pair : {xs ys us vs : List ℕ} → NotAfter xs ys → NotAfter us vs → us ≡ ys → vs ≡ xs → xs ≡ ys
+not_after_pair stops stops p q = p
+not_after_pair stops (lower k) p q = cc
+not_after_pair stops (beyond k) p q = cc
+not_after_pair (lower h) stops p q = cc
+not_after_pair (lower {x = x} {y = y} h) (lower {x = u} {y = v} k) p q = let e : u ≡ y = cc in let f : v ≡ x = cc in absurd (omega arith)
+not_after_pair (lower {x = x} {y = y} h) (beyond {x = u} k) p q = let e : u ≡ y = cc in let f : u ≡ x = cc in absurd (omega arith)
+not_after_pair (beyond h) stops p q = cc
+not_after_pair (beyond {x = x} h) (lower {x = u} {y = v} k) p q = let e : u ≡ x = cc in let f : v ≡ x = cc in absurd (omega arith)
+not_after_pair (beyond {x = x} {xs = xs} {ys = ys} h) (beyond {x = u} {xs = us} {ys = vs} k) p q =
+    let e : us ≡ ys = cc in
+    let f : vs ≡ xs = cc in
+    ap (λ (l : List ℕ). x ∷ l) (not_after_pair h k e f)
+
 -- two lists of which neither comes after the other are one
 pub not_after_both : {xs ys : List ℕ} → NotAfter xs ys → NotAfter ys xs → xs ≡ ys
-not_after_both stops stops = refl
-not_after_both (lower h) (lower k) = absurd (omega arith)
-not_after_both (lower h) (beyond k) = absurd (omega arith)
-not_after_both (beyond h) (lower k) = absurd (omega arith)
-not_after_both (beyond {x} h) (beyond k) = ap (λ l. x ∷ l) (not_after_both h k)
+not_after_both h k = not_after_pair h k refl refl
 
 -- what follow gives begins with the connection that it starts from
 pub follow_begins : (w : List ℕ) (k c : ℕ) → 0 < k → (rest : List ℕ) × (follow w k c ≡ c ∷ rest)

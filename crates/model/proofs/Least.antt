@@ -1,6 +1,6 @@
 -- The first by time and number: what it is, and that it is the only one. Assumes nothing.
 use mathlib.Core.Path.{◌≡◌, refl, sym, ◌∙◌}
-use mathlib.Core.Logic.{◌⊎◌, inl, inr, ⊎_elim}
+use mathlib.Core.Logic.{inl, inr, ⊎_elim}
 use mathlib.Core.Bool.{Bool, true, false, cond, ◌&&◌, ◌||◌, true≢false}
 use Prim.Native.Nat.{ℕ, zero, suc, ◌<◌, ◌≤◌}
 use native.Mathlib.Omega.{arith}
@@ -40,7 +40,7 @@ module _ (test : ℕ → Bool) (time : ℕ → ℕ) where
     scan_loses f g k (inl l) = absurd (omega (arith, l.0))
     scan_loses f g k (inr r') = inr (record { below = omega (arith, r'.below); passes = r'.passes; least = one_more (λ e. test e ≡ true → key time r ≤ key time e) n r'.least (λ q. omega (arith, r'.below)) })
 
-    -- one turn of leastBelow
+    -- one turn of least_below
     turn : n ≤ none → Least test time n r → Least test time (suc n) (cond (test n && (eqb r none || ltb (time n) (time r))) n r)
     turn s w =
         ⊎_elim
@@ -58,7 +58,7 @@ module _ (test : ℕ → Bool) (time : ℕ → ℕ) where
         top (inl l) g = l.0
         top (inr f) g = absurd (omega (arith, f.below))
 
-  -- leastBelow is the first, or none where none passes
+  -- least_below is the first, or none where none passes
   pub least_is : (n : ℕ) → n ≤ none → Least test time n (least_below test time n)
   unfolding least_below
   least_is zero h = scan_none
@@ -71,7 +71,7 @@ module _ (test : ℕ → Bool) (time : ℕ → ℕ) where
   least_unique n r s h (inr l) (inl m) = absurd (m.1 r l.below l.passes)
   least_unique n r s h (inr l) (inr m) = omega (arith, l.least s m.below m.passes, m.least r l.below l.passes, l.below, m.below)
 
--- what is the first is what leastBelow finds
+-- what is the first is what least_below finds
 pub scan_done : (test : ℕ → Bool) (time : ℕ → ℕ) (n r : ℕ) → n ≤ none → Least test time n r → r ≡ least_below test time n
 scan_done test time n r h l = least_unique test time n r (least_below test time n) h l (least_is test time n h)
 

@@ -10,7 +10,7 @@ use lib.Signed.{◌≤ℤ◌, le_z_yes}
 use Rattle.timetable.specs.Check.{max_transfer_time}
 use Rattle.model.specs.Network.{Network, last_expected, Sound}
 use Rattle.model.specs.Graph.{board, ready}
-use Rattle.model.specs.Margin.{margin_between, margin_of, least_margin, most_margin, MarginRange}
+use Rattle.model.specs.Margin.{margin_between, margin_of, MarginRange}
 use Rattle.model.proofs.ByCases.{by_lt}
 
 sub_is : (d s : ℕ) → pos d -ℤ pos s ≡ sub_ℕ d s

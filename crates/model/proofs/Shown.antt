@@ -9,7 +9,7 @@ use native.Mathlib.Omega.{arith}
 use borrow.Author.Tests.{ne_eqb, eqb-false}
 use lib.ListN.{length, take, drop, length-append}
 use lib.Seq.{take-suc}
-use Rattle.timetable.specs.File.{stops, connections}
+use Rattle.timetable.specs.File.{connections}
 use Rattle.timetable.specs.declared.Verdict.TheVariants.{Passed}
 use Rattle.model.specs.Least.{none, least_below}
 use Rattle.model.specs.Network.{Network, Sound}

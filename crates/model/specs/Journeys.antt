@@ -1,6 +1,6 @@
 -- Valid journeys, as lists of connections read from their end, and the order in which document 01 compares them.
 -- Assumes nothing.
-use Rattle.std.specs.Prelude.{◌≡◌, Bool, true, ◌&&◌, ◌||◌, List, [], ◌∷◌, ℕ, suc, ◌+◌, ◌<◌, ◌≤◌, leb, eqb}
+use Rattle.std.specs.Prelude.{◌≡◌, Bool, true, ◌&&◌, ◌||◌, List, [], ◌∷◌, ℕ, suc, ◌<◌, ◌≤◌, leb, eqb}
 use Rattle.model.specs.Network.{Network}
 use Rattle.model.specs.Graph.{board, ready, Node, departure_of, arrival_of, Arc}
 

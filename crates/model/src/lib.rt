@@ -1,5 +1,7 @@
 // Every rule of document 01 as a definition (specs/), with the laws that give them their meaning (proofs/). The code here is the
 // limits and the refusals by name, each constant the definition of the same name in specs/, and the primary delay as a struct.
+#![tactic(auto)]
+
 pub mod refusal;
 
 // No connection: `none`.
@@ -30,7 +32,7 @@ pub const LAST_EXPECTED: u16 = 5759;
 pub const MOST_GRAPH: usize = 8500;
 
 // A connection's primary delay and the number of the notice that gives it.
-#[derive(Drop)]
+#[derive(Clone, Copy)]
 pub struct PrimaryDelay {
     pub delay: u16,
     pub notice: u16,

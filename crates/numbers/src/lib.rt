@@ -1,5 +1,7 @@
 // Numbers of 16 bits in byte slices, low byte first: one number at a place, and a whole area of bytes read into
 // an area of numbers and written back. The laws that join the two directions are in proofs/Areas.
+#![tactic(auto)]
+
 ghost use Rattle.std.specs.Prelude.{◌≡◌, ◌+◌, ◌<◌, min, length};
 ghost use Rattle.numbers.specs.Numbers.{number_at, numbers_of, over, over_bytes};
 

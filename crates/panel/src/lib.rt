@@ -1,4 +1,6 @@
 // The library's operations for C, over areas of bytes, with their answers as numbers.
+#![tactic(auto)]
+
 ghost use Rattle.std.specs.Prelude.{◌≡◌};
 ghost use Rattle.numbers.specs.Numbers.{numbers_of};
 ghost use Rattle.timetable.specs.Check.{checked_answer};

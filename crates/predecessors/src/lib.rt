@@ -1,4 +1,6 @@
 // The predecessors of an enquiry: one pass over the connections in the order of departure, in place.
+#![tactic(auto)]
+
 ghost use Rattle.std.specs.Prelude.{◌≡◌, ◌++◌, ◌≤◌, length, drop, replicate};
 ghost use Rattle.timetable.specs.File.{connections};
 ghost use Rattle.model.specs.Least.{none};

@@ -1,4 +1,6 @@
 // What the desk says to an answer.
+#![tactic(auto)]
+
 ghost use Rattle.std.specs.Prelude.{◌≡◌, List, ℕ};
 ghost use Rattle.graph.specs.Answers.{told_number};
 ghost use Rattle.margins.specs.Margin.{told_margin};

@@ -1,19 +1,18 @@
 -- What an enquiry asks of its own numbers: when each refusal is given, and what it tells where they pass.
 -- Assumes nothing.
-use mathlib.Core.Path.{◌≡◌, refl, sym, ◌∙◌}
-use mathlib.Core.Bool.{not, ◌||◌}
-use mathlib.Core.List.{List, []}
+use mathlib.Core.Path.{◌≡◌, refl, sym}
+use mathlib.Core.Bool.{◌||◌}
+use mathlib.Core.List.{[]}
 use Prim.Native.Nat.{ℕ, ◌<◌, ◌≤◌}
 use native.Mathlib.Omega.{arith}
-use lib.Dec.{ltb, leb, eqb}
+use lib.Dec.{ltb, leb}
 use Rattle.timetable.specs.Answers.{refuse_if}
-use Rattle.timetable.specs.File.{connections, from, to}
 use Rattle.timetable.specs.declared.Verdict.TheVariants.{Passed, Refused}
-use Rattle.timetable.proofs.Tests.{below, at_most, unequal, either}
-use Rattle.timetable.proofs.Order.{Rule, rule, pass, stop, passes}
+use Rattle.timetable.proofs.Tests.{below, at_most, either}
+use Rattle.timetable.proofs.Order.{Rule, rule, pass, stop}
 use Rattle.model.specs.RefusalNumber as refusal
 use Rattle.model.specs.Network.{last_expected}
-use Rattle.model.specs.Parts.{asked_verdict, enquiry_asks, margin_asks}
+use Rattle.model.specs.Parts.{asked_verdict, enquiry_asks}
 
 -- 15, then 16
 module _ (s a b t : ℕ) where

@@ -1,4 +1,6 @@
 // What an enquiry asks of the areas that it is lent and of its own numbers.
+#![tactic(auto)]
+
 ghost use Rattle.std.specs.Prelude.{◌≡◌, []};
 ghost use Rattle.timetable.specs.Accepted.{Timetable};
 ghost use Rattle.model.specs.Day.{day_of, lent};

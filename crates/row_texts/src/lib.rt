@@ -1,4 +1,6 @@
 // Rows of stop_times.txt written: a column with the byte that ends it, a row, and how long a row is.
+#![tactic(auto)]
+
 ghost use Rattle.std.specs.Prelude.{◌≡◌, ◌+◌, ◌≤◌, ◌<◌, length};
 ghost use Rattle.decimals.specs.Decimal.{decimal_of};
 ghost use Rattle.decimals.specs.Written.{Written};

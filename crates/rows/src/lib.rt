@@ -1,4 +1,6 @@
 // The check of a notice area's rows: refusal 23.
+#![tactic(auto)]
+
 ghost use Rattle.std.specs.Prelude.{◌≡◌, ◌≤◌, length};
 ghost use Rattle.model.specs.Notices.{notice, notices_length, stands_right, standing_verdict, unused_verdict, rows_verdict};
 ghost use Rattle.rows.specs.Rows.{CountFits, all_zero};

@@ -1,4 +1,6 @@
 // A list of postings and withdrawals, worked one after the other.
+#![tactic(auto)]
+
 ghost use Rattle.std.specs.Prelude.{◌≡◌, min};
 ghost use Rattle.model.specs.Day.{day_of, lent};
 ghost use Rattle.model.specs.Runs.{ran};

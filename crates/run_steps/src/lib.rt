@@ -1,4 +1,6 @@
 // One call of a run, and its answer's two numbers.
+#![tactic(auto)]
+
 ghost use Rattle.std.specs.Prelude.{◌≡◌};
 ghost use Rattle.model.specs.Operations.{outcome};
 ghost use Rattle.model.specs.Day.{day_of, lent};

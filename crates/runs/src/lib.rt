@@ -1,4 +1,6 @@
 // Whole runs: building, then a list of postings and withdrawals.
+#![tactic(auto)]
+
 ghost use Rattle.timetable.specs.Check.{told_counts};
 ghost use Rattle.model.specs.Day.{day_of, lent};
 ghost use Rattle.runs.specs.Whole.{Whole};

@@ -1,4 +1,6 @@
 // The search layer's operations: the journey that arrives first and, passed on, the margin of a change.
+#![tactic(auto)]
+
 ghost use Rattle.std.specs.Prelude.{◌≡◌, ℕ, ◌<◌, ◌≤◌, length};
 ghost use Rattle.timetable.specs.Answers.{refused};
 ghost use Rattle.timetable.specs.File.{connections};

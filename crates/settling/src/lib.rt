@@ -1,4 +1,6 @@
 // The entry that a connection gets when the pass visits it.
+#![tactic(auto)]
+
 ghost use Rattle.std.specs.Prelude.{◌≡◌, ◌*◌, ◌<◌, length};
 ghost use Rattle.timetable.specs.File.{connections};
 ghost use Rattle.timetable.specs.Room.{HasConnection};

@@ -1,4 +1,6 @@
 // Rows of stop_times.txt read: the columns of a row one after the other, each found in the text and read.
+#![tactic(auto)]
+
 ghost use Rattle.std.specs.Prelude.{◌≡◌, ◌≤◌, length};
 ghost use Rattle.decimals.specs.Decimal.{decimal};
 ghost use Rattle.gtfs.specs.Clock.{time_of};
@@ -9,14 +11,14 @@ use decimals::Number;
 use gtfs::StopTime;
 
 // What a column holds: a number and where the next column starts, or none that can be read.
-#[derive(Drop)]
+#[derive(Clone, Copy)]
 pub enum Column {
     Is(u16, usize),
     Unread,
 }
 
 // A line of a text: a row and where the next line starts, or no row that a newline ends.
-#[derive(Drop)]
+#[derive(Clone, Copy)]
 pub enum Line {
     Row(StopTime, usize),
     Wrong,

@@ -1,13 +1,16 @@
 // The files of the desk program: day.ttg read, the input read into its block, answers written. What is read and written no contract can
 // say; what is read lies in its area.
+#![tactic(auto)]
+
 ghost use Rattle.std.specs.Prelude.{◌≤◌, length};
 ghost use Rattle.streams.specs.Room.{InBlock};
 
 use files::Loaded;
-use libc::{STDIN_FILENO, STDOUT_FILENO};
+use std::io::{Eprint, Print, Read};
+use std::rt::Files;
 
 // Where the bytes of the block that are not worked yet start and end, and whether more is to come.
-#[derive(Drop)]
+#[derive(Clone, Copy)]
 pub struct Input {
     pub at: usize,
     pub end: usize,
@@ -15,54 +18,70 @@ pub struct Input {
 }
 
 // The file day.ttg into file as far as it has room; how many bytes, and 0 where it cannot be read.
-pub fn load(file: &mut [u8]) -> usize
+pub fn load(rt: &impl Files, file: &mut [u8]) -> usize
     ensures { result ≤ length file.new }
 {
-    let loaded = files::load(b"day.ttg", file);
+    let loaded = files::load(rt, "day.ttg", file);
     match loaded {
         Loaded::Bytes(n) => n,
-        Loaded::Failed => 0,
+        Loaded::Failed(_) => 0,
     }
 }
 
 // Writes the first bytes of out to standard output; whether all are written. If not, a line on standard error says why.
-pub fn print(out: &[u8], size: usize) -> bool
+pub fn print(rt: &(impl Print + Eprint), out: &[u8], size: usize) -> bool
     requires { size ≤ length out.now }
 {
-    if io::write_all(STDOUT_FILENO, &out[0..size]) {
-        return true;
+    match rt.write_all(&out[0..size]) {
+        Ok(()) => true,
+        Err(error) => {
+            files::fail(rt, "standard output", error);
+            false
+        }
     }
-    os::fail(b"standard output");
-    false
 }
 
 // The input with more bytes of standard input behind what is held of its rest, none at the end of standard input. Where it cannot be
 // read, a line on standard error says why, and nothing is held.
-fn read_more(block: &mut [u8], at: usize, end: usize) -> Input
+fn read_more(
+    rt: &impl Eprint,
+    reader: &mut impl Read,
+    block: &mut [u8],
+    at: usize,
+    end: usize,
+) -> Input
     requires { (at ≤ end) × (end ≤ length block.old) }
     ensures { InBlock result (length block.new) }
 {
     let held = input::hold(block, at, end);
-    let got = libc::read(STDIN_FILENO, &mut block[held..]);
-    if got < 0 {
-        os::fail(b"standard input");
-        return Input {
+    match reader.read(&mut block[held..]) {
+        Ok(more) => Input {
             at: 0,
-            end: 0,
-            going: false,
-        };
-    }
-    let more = io::count(got, &block[held..]);
-    Input {
-        at: 0,
-        end: held + more,
-        going: more > 0,
+            end: held + more,
+            going: more > 0,
+        },
+        Err(error) => {
+            files::fail(rt, "standard input", error);
+            Input {
+                at: 0,
+                end: 0,
+                going: false,
+            }
+        }
     }
 }
 
 // The input to go on with: none where the answers could not be written, the block's rest where there was no room for another answer,
 // else more of it.
-pub fn next_input(block: &mut [u8], at: usize, end: usize, written: bool, full: bool) -> Input
+pub fn next_input(
+    rt: &impl Eprint,
+    reader: &mut impl Read,
+    block: &mut [u8],
+    at: usize,
+    end: usize,
+    written: bool,
+    full: bool,
+) -> Input
     requires { (at ≤ end) × (end ≤ length block.old) }
     ensures { InBlock result (length block.new) }
 {
@@ -80,5 +99,5 @@ pub fn next_input(block: &mut [u8], at: usize, end: usize, written: bool, full: 
             going: true,
         };
     }
-    read_more(block, at, end)
+    read_more(rt, reader, block, at, end)
 }

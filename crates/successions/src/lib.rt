@@ -1,4 +1,6 @@
 // A connection of a timetable file tested against the one before it, in one answer: whether 9 and 11 do not hold.
+#![tactic(auto)]
+
 ghost use Rattle.std.specs.Prelude.{◌≡◌, not, ◌||◌};
 ghost use Rattle.timetable.specs.File.{stays_aboard};
 ghost use Rattle.timetable.specs.Check.{wrong_trip, wrong_join};

@@ -6,7 +6,7 @@ use mathlib.Core.List.{List, [], ◌∷◌, ◌++◌, append-nil}
 use Prim.Native.Nat.{ℕ, zero, suc, ◌+◌, ◌*◌, ◌<◌, ◌≤◌, max}
 use native.Mathlib.Numerals.{add-one}
 use native.Mathlib.Omega.{arith}
-use lib.ListN.{length, get_or, drop, set, length-append, length-drop}
+use lib.ListN.{length, drop, set, length-append, length-drop}
 use lib.Seq.{drop-append-add, drop-drop, drop-length, sets-eq, take_at}
 use Rattle.timetable.specs.File.{connections, scheduled_departure, scheduled_arrival, stays_aboard}
 use Rattle.model.specs.Network.{Network, last_expected}

@@ -1,4 +1,6 @@
 // Expected times, from the timetable and the notices that stand.
+#![tactic(auto)]
+
 ghost use Rattle.std.specs.Prelude.{◌≡◌, ◌*◌, ◌<◌, ◌≤◌, length};
 ghost use Rattle.timetable.specs.File.{connections};
 ghost use Rattle.model.specs.Day.{day_of};
@@ -11,7 +13,7 @@ ghost use Rattle.model.specs.Notices.{rows_of, Standing};
 use model::PrimaryDelay;
 
 // When a connection departs and arrives.
-#[derive(Drop)]
+#[derive(Clone, Copy)]
 pub struct Times {
     pub departure: u16,
     pub arrival: u16,

@@ -1,4 +1,6 @@
 // The timetable file: its limits and refusals by name, and readers of its fields.
+#![tactic(auto)]
+
 ghost use Rattle.std.specs.Prelude.{◌≡◌, ◌<◌, ◌≤◌, length};
 ghost use Rattle.timetable.specs.File.{header_length, stops, connections, transfer_time, field, trip, from, to, scheduled_departure, scheduled_arrival, stays_aboard};
 ghost use Rattle.timetable.specs.Room.{HasStop, HasField, HasConnection};
@@ -25,14 +27,14 @@ pub const MAX_TRANSFER_TIME: u16 = 60;
 pub const LAST_SCHEDULED: u16 = 4319;
 
 // Whether a call goes on, or the refusal's number and place.
-#[derive(Drop)]
+#[derive(Clone, Copy)]
 pub enum Verdict {
     Passed,
     Refused(u16, u16),
 }
 
 // The answer of the file check: how many stops and connections, or the refusal's number and place.
-#[derive(Drop)]
+#[derive(Clone, Copy)]
 pub enum Checked {
     Accepted(u16, u16),
     Refused(u16, u16),

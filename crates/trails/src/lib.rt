@@ -1,4 +1,6 @@
 // Predecessors followed from the last connection of a journey to its first, and the journey written in the order of travel.
+#![tactic(auto)]
+
 ghost use Rattle.std.specs.Prelude.{◌≡◌, ◌≤◌, length};
 ghost use Rattle.trails.specs.Trail.{journey_to, Trail, JourneyWritten};
 

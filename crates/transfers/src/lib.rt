@@ -1,5 +1,7 @@
 // The filler of the transfer entries, in linear time. A sweep from the last event down keeps the head of each board and fills the
 // entries. It leaves the first departures, and the departures from the last to the first.
+#![tactic(auto)]
+
 ghost use Rattle.std.specs.Prelude.{◌≡◌, ◌<◌, length, get_or, set};
 ghost use Rattle.timetable.specs.Accepted.{Opened};
 ghost use Rattle.timetable.specs.File.{to};

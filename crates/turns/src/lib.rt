@@ -1,4 +1,6 @@
 // What the desk says to a line of a dispatcher, and what it has afterwards: a turn of the dialogue. No input and no output.
+#![tactic(auto)]
+
 ghost use Rattle.model.specs.Day.{day_of, lent};
 ghost use Rattle.commands.specs.Commands.{command_of};
 ghost use Rattle.written_replies.specs.Said.{OutRoom};

@@ -1,5 +1,7 @@
 // Building, posting and withdrawing on areas of bytes: the fronts are read into numbers, the numbers worked on, and what an accepted
 // update changed is written back; the answer is a number.
+#![tactic(auto)]
+
 ghost use Rattle.model.specs.Notices.{notices_length};
 ghost use Rattle.model.specs.Day.{day_of};
 ghost use Rattle.model.specs.Drawn.{most_graph};

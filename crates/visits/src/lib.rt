@@ -1,4 +1,6 @@
 // One turn of the pass that fills the predecessors: the visit of a connection.
+#![tactic(auto)]
+
 ghost use Rattle.std.specs.Prelude.{◌≡◌, ◌<◌, length};
 ghost use Rattle.timetable.specs.File.{connections};
 ghost use Rattle.timetable.specs.Room.{HasConnection};

@@ -1,4 +1,6 @@
 // What an enquiry found, written back to areas of bytes: the predecessors and the journey.
+#![tactic(auto)]
+
 ghost use Rattle.std.specs.Prelude.{◌≡◌, true, take};
 ghost use Rattle.timetable.specs.File.{connections};
 ghost use Rattle.journeys.specs.Reading.{told_arrival};

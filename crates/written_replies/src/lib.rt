@@ -1,4 +1,6 @@
 // What the desk says to a command, and the line of it; the line of a building's answer.
+#![tactic(auto)]
+
 ghost use Rattle.std.specs.Prelude.{◌≤◌, length};
 ghost use Rattle.timetable.specs.Check.{told_counts};
 ghost use Rattle.labels.specs.Room.{line_room, LineIs};
@@ -8,7 +10,7 @@ ghost use Rattle.written_replies.specs.Said.{OutRoom, line_in, Fits, Said};
 use timetable::Checked;
 
 // What the desk says to a command.
-#[derive(Drop)]
+#[derive(Clone, Copy)]
 pub enum Reply {
     // the arrival, and how many connections the journey has
     Arrives(u16, u16),
@@ -22,7 +24,7 @@ pub enum Reply {
 }
 
 // The length of a building's line, and whether the timetable is accepted.
-#[derive(Drop)]
+#[derive(Clone, Copy)]
 pub struct Begun {
     pub size: usize,
     pub accepted: bool,

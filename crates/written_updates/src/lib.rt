@@ -1,4 +1,6 @@
 // What an accepted update leaves of both areas, written back to areas of bytes.
+#![tactic(auto)]
+
 ghost use Rattle.std.specs.Prelude.{◌≡◌, true, ◌≤◌, length, take};
 ghost use Rattle.timetable.specs.File.{header_length};
 ghost use Rattle.model.specs.Drawn.{graph_length};

@@ -1,0 +1,70 @@
+-- `asks::posting_verdict` meets its contract. Assumes nothing.
+use mathlib.Core.Path.{◌≡◌, sym, ◌∙◌}
+use mathlib.Core.Bool.{true, false}
+use native.Mathlib.Omega.{arith}
+use borrow.Author.Tests.{eq-eqb, ne_eqb, le-leb, lt-leb}
+use lib.ListN.{length}
+use Rattle.model.specs.Notices.{room, least_delay, most_posted, rows_of, stands, stands_elsewhere}
+use Rattle.model.proofs.Areas.{count_rows}
+use Rattle.model.proofs.Asked.{by_standing}
+use Rattle.asks.proofs.posting_verdict.Goals as goal
+
+pub returns-then-number-eq-NO_NUMBER : goal.returns-then-number-eq-NO_NUMBER
+returns-then-number-eq-NO_NUMBER c =
+    rw (eq-eqb c.args.number 0 c.if-number-eq-NO_NUMBER.true)
+
+pub returns-then-n-connection : goal.returns-then-n-connection
+returns-then-n-connection c =
+    let a = c.args in
+    rw (ne_eqb a.number 0 c.if-number-eq-NO_NUMBER.false, le-leb a.n a.connection (omega arith))
+
+pub returns-then-delay-lt-LEAST_DELAY : goal.returns-then-delay-lt-LEAST_DELAY
+returns-then-delay-lt-LEAST_DELAY c =
+    let a = c.args in
+    rw (ne_eqb a.number 0 c.if-number-eq-NO_NUMBER.false, lt-leb a.n a.connection (omega arith), lt-leb least_delay a.delay (omega arith))
+
+pub returns-then-delay-gt-MOST_POSTED : goal.returns-then-delay-gt-MOST_POSTED
+returns-then-delay-gt-MOST_POSTED c =
+    let a = c.args in
+    rw (ne_eqb a.number 0 c.if-number-eq-NO_NUMBER.false, lt-leb a.n a.connection (omega arith), le-leb least_delay a.delay (omega arith), lt-leb a.delay most_posted (omega arith))
+
+pub returns-then-stands_elsewhere : goal.returns-then-stands_elsewhere
+returns-then-stands_elsewhere c =
+    let a = c.args in
+    let ns = rows_of a.notices.now in
+    let own = by_standing a.n ns a.number a.connection a.delay in
+    let passed = own c.if-number-eq-NO_NUMBER.false (omega arith) (omega arith) (omega arith) in
+    let elsewhere : stands_elsewhere a.number a.connection ns ≡ true = sym c.stands_elsewhere.ensures ∙ c.if-stands_elsewhere.true in
+    rw (passed, elsewhere)
+
+pub returns-then-is_standing : goal.returns-then-is_standing
+returns-then-is_standing c =
+    let a = c.args in
+    let ns = rows_of a.notices.now in
+    let own = by_standing a.n ns a.number a.connection a.delay in
+    let passed = own c.if-number-eq-NO_NUMBER.false (omega arith) (omega arith) (omega arith) in
+    let here : stands_elsewhere a.number a.connection ns ≡ false = sym c.stands_elsewhere.ensures ∙ c.if-stands_elsewhere.false in
+    let standing : stands a.number ns ≡ true = sym c.is_standing.ensures ∙ c.if-is_standing.true in
+    rw (passed, here, standing)
+
+pub returns-then-notices-ge-ROOM : goal.returns-then-notices-ge-ROOM
+returns-then-notices-ge-ROOM c =
+    let a = c.args in
+    let ns = rows_of a.notices.now in
+    let own = by_standing a.n ns a.number a.connection a.delay in
+    let passed = own c.if-number-eq-NO_NUMBER.false (omega arith) (omega arith) (omega arith) in
+    let full = le-leb room (length ns) (omega (arith, count_rows a.notices.now)) in
+    let here : stands_elsewhere a.number a.connection ns ≡ false = sym c.stands_elsewhere.ensures ∙ c.if-stands_elsewhere.false in
+    let new : stands a.number ns ≡ false = sym c.is_standing.ensures ∙ c.if-is_standing.false in
+    rw (passed, here, new, full)
+
+pub returns : goal.returns
+returns c =
+    let a = c.args in
+    let ns = rows_of a.notices.now in
+    let own = by_standing a.n ns a.number a.connection a.delay in
+    let passed = own c.if-number-eq-NO_NUMBER.false (omega arith) (omega arith) (omega arith) in
+    let full = lt-leb room (length ns) (omega (arith, count_rows a.notices.now)) in
+    let here : stands_elsewhere a.number a.connection ns ≡ false = sym c.stands_elsewhere.ensures ∙ c.if-stands_elsewhere.false in
+    let new : stands a.number ns ≡ false = sym c.is_standing.ensures ∙ c.if-is_standing.false in
+    rw (passed, here, new, full)

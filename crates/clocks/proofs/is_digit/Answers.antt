@@ -1,0 +1,12 @@
+-- `clocks::is_digit` meets its contract. Assumes nothing.
+use borrow.Author.Tests.{le-leb, lt-leb}
+use Rattle.decimals.specs.Bytes.{digit_zero}
+use Rattle.clocks.proofs.is_digit.Goals as goal
+
+pub returns-then-byte-lt48 : goal.returns-then-byte-lt48
+returns-then-byte-lt48 c =
+    rw (lt-leb digit_zero c.args.byte c.if-byte-lt48.true)
+
+pub returns : goal.returns
+returns c =
+    rw (le-leb digit_zero c.args.byte c.if-byte-lt48.false)

@@ -1,0 +1,14 @@
+-- `lines::write_posted` meets its contract: a line of one number. Assumes nothing.
+use native.Mathlib.Omega.{arith}
+use Rattle.lines.specs.Lines.{posted_label, posted_line}
+use Rattle.labels.proofs.Lengths.{number_room}
+use Rattle.lines.proofs.write_posted.Goals as goal
+
+pub write_number-requires : goal.write_number-requires
+write_number-requires c =
+    omega (arith, number_room posted_label c.args.number (omega (arith, c.ranges.number)) (omega arith), c.requires)
+
+pub returns : goal.returns
+unfolding posted_line
+returns c =
+    c.write_number.ensures

@@ -1,0 +1,10 @@
+-- `margins::refused_margin` meets its contract. Assumes nothing.
+use Rattle.margins.proofs.refused_margin.Goals as goal
+
+pub returns-in-Accepted : goal.returns-in-Accepted
+returns-in-Accepted c =
+    λ n p e. let h = rw c.in-Accepted.is at e in cc
+
+pub returns-in-Refused : goal.returns-in-Refused
+returns-in-Refused c =
+    λ n p e. let h = rw c.in-Refused.is at e in cc

@@ -1,0 +1,15 @@
+-- `numbers::read_area` meets its contract. The loop's invariant: the area is the one that came with the first i
+-- numbers of the bytes written over it. The measure is the numbers left. Assumes nothing.
+use mathlib.Core.Path.{◌≡◌}
+use Prim.Native.Nat.{◌-◌, ◌≤◌}
+use lib.ListN.{length, take}
+use Rattle.numbers.specs.Numbers.{numbers_of, over}
+use Rattle.numbers.proofs.read_area.Given as goal
+
+abbrev pub invariant-loop-i : goal.invariant-loop-i
+invariant-loop-i l =
+    (l.i ≤ l.n) × (length l.area ≡ length l.initial.area) × (l.area ≡ over (take l.i (numbers_of l.bytes)) l.initial.area)
+
+abbrev pub decreases-loop-i : goal.decreases-loop-i
+decreases-loop-i l =
+    l.n - l.i

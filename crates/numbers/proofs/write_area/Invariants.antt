@@ -1,0 +1,15 @@
+-- `numbers::write_area` meets its contract. The loop's invariant: the bytes are those that came with the first i
+-- numbers of the area written over them. The measure is the numbers left. Assumes nothing.
+use mathlib.Core.Path.{◌≡◌}
+use Prim.Native.Nat.{◌-◌, ◌≤◌}
+use lib.ListN.{length, take}
+use Rattle.numbers.specs.Numbers.{over_bytes}
+use Rattle.numbers.proofs.write_area.Given as goal
+
+abbrev pub invariant-loop-i : goal.invariant-loop-i
+invariant-loop-i l =
+    (l.i ≤ l.n) × (length l.bytes ≡ length l.initial.bytes) × (l.bytes ≡ over_bytes (take l.i l.area) l.initial.bytes)
+
+abbrev pub decreases-loop-i : goal.decreases-loop-i
+decreases-loop-i l =
+    l.n - l.i

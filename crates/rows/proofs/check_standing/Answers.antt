@@ -1,0 +1,26 @@
+-- The rows that stand are checked one by one.
+use mathlib.Core.Path.{sym, ◌∙◌}
+use native.Mathlib.Omega.{arith}
+use Rattle.model.specs.Notices.{count_in, stands_right}
+use Rattle.rows.proofs.Checking.{standing_start, check_wrong, check_right, check_end}
+use Rattle.std.proofs.Common.{ap, not}
+use Rattle.rows.proofs.check_standing.Goals as goal
+
+pub loop-k-init : goal.loop-k-init
+loop-k-init c =
+    let a = c.args in (omega arith, standing_start a.n a.notices.now)
+
+pub returns-then-not-stands_right : goal.returns-then-not-stands_right
+returns-then-not-stands_right c =
+    let a = c.args in
+    check_wrong (stands_right a.n) a.notices.now _ c.loop-k.k c.loop-k.before c.loop-k-test.true c.stands_right.ensures (ap not c.if-not-stands_right.true) c.loop-k.invariant.1
+
+pub loop-k-preserved : goal.loop-k-preserved
+loop-k-preserved c =
+    let a = c.args in
+    (omega arith, check_right (stands_right a.n) a.notices.now _ c.loop-k.k c.loop-k.before c.loop-k-test.true c.stands_right.ensures (ap not c.if-not-stands_right.false) c.loop-k.invariant.1)
+
+pub returns : goal.returns
+returns c =
+    let a = c.args in
+    sym (check_end (stands_right a.n) a.notices.now (count_in a.notices.now) c.loop-k.k c.loop-k.before (omega arith)) ∙ c.loop-k.invariant.1

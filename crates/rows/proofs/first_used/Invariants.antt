@@ -1,0 +1,15 @@
+-- The other rows are checked one by one.
+use mathlib.Core.Path.{◌≡◌}
+use Prim.Native.Nat.{◌≤◌, ◌-◌}
+use Rattle.model.specs.Notices.{room, unused_verdict}
+use Rattle.model.proofs.Rows.{unused_after}
+use Rattle.rows.proofs.Checking.{to_check}
+use Rattle.rows.proofs.first_used.Given as goal
+
+abbrev pub invariant-loop-k : goal.invariant-loop-k
+invariant-loop-k l =
+    (l.k ≤ room) × (to_check unused_after l.notices room l.k 0 ≡ unused_verdict l.notices)
+
+abbrev pub decreases-loop-k : goal.decreases-loop-k
+decreases-loop-k l =
+    room - l.k

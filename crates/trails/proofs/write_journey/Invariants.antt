@@ -1,0 +1,20 @@
+-- `trails::write_journey` meets its contract. Assumes nothing.
+use mathlib.Core.Path.{◌≡◌}
+use mathlib.Core.List.{reverse_aux}
+use Prim.Native.Nat.{◌≤◌}
+use lib.ListN.{length, drop}
+use Rattle.model.specs.Predecessors.{follow}
+use Rattle.trails.specs.Trail.{Trail}
+use Rattle.trails.proofs.write_journey.Given as goal
+
+abbrev pub invariant-loop-i : goal.invariant-loop-i
+invariant-loop-i l =
+    (l.i ≤ length l.journey)
+    × (length l.journey ≡ length l.initial.journey)
+    × Trail l.predecessors l.c
+    × (length (follow l.predecessors l.i l.c) ≡ l.i)
+    × (reverse_aux (follow l.predecessors l.i l.c) (drop l.i l.journey) ≡ reverse_aux (follow l.predecessors l.k l.last) (drop l.k l.initial.journey))
+
+abbrev pub decreases-loop-i : goal.decreases-loop-i
+decreases-loop-i l =
+    l.i
