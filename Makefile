@@ -9,21 +9,21 @@ COMPARE = tests/compare/cargo.sh run
 test: needs-rt needs-gcc needs-cargo needs-python3
 	@bash .ci/run
 
-# The desk program on example J. Of what rt prints, the lines about single functions and loaded libraries are left out.
+# The desk program on example J.
 demo: needs-rt
 	@echo 'Proves the desk program and every crate below it, then runs it on example J (example/commands).'
-	@echo 'From nothing it takes some five minutes with two processors; what is proved already is not proved again.'
-	@.ci/prover check desk 2>&1 | grep --line-buffered -Ev '^(library |logic[ =]|fn .*: proved$$|axioms |linked )'
+	@echo 'From nothing it takes minutes; what is proved already is not proved again.'
+	@bash .ci/build desk
 	@echo 'desk < commands:'
 	@cd example && ../target/bin/desk < commands
 
 # The programs, proved and run on example J: target/bin/desk, gtfs_import and gtfs_export.
 programs: needs-rt
-	@.ci/prover check desk gtfs_import gtfs_export 2>&1 | grep --line-buffered -Ev '^(library |logic[ =]|fn .*: proved$$|axioms |linked )'
+	@bash .ci/build desk gtfs_import gtfs_export
 
 # The static library for C: target/staticlib/libpanel.a, with include/ttg.h.
 lib: needs-rt
-	.ci/prover staticlib panel
+	@bash .ci/build panel
 
 # Microseconds beside the independent Rust implementation, with one timetable and with sixteen in turn, and with all departures in
 # one minute; instructions too where valgrind is installed, drawn into target/instructions.svg.

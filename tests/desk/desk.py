@@ -224,7 +224,8 @@ def reader_gone_ignored():
 
 
 def reader_gone_signalled():
-    reader_gone(None, b"", -signal.SIGPIPE)
+    """The program is started with the signal at its default, and ignores it."""
+    reader_gone(None, b"standard output: Broken pipe\n", 0)
 
 
 def output_not_waiting():
