@@ -4,12 +4,7 @@ use mathlib.Core.List.{List, append_assoc}
 use Prim.Native.Nat.{ℕ, ◌-◌, ◌≤◌}
 use borrow.Rule.Slice.PartMut.{put_mid, Post-is}
 use Rattle.area_parts.specs.Area.{spliced}
-use Rattle.timetable.specs.Accepted.{Opened}
 
 -- a part that was lent and came back
 pub put_part : (xs ys : List ℕ) (a e : ℕ) → a ≤ e → put_mid a (e - a) xs ys ≡ spliced xs a e ys
 put_part xs ys a e h = rw (Post-is a e xs h, append_assoc)
-
--- the count of connections by another name
-pub opened_as : {f : List ℕ} {s n m : ℕ} → Opened f s n → m ≡ n → Opened f s m
-opened_as o q = rw q o

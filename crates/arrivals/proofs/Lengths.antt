@@ -6,10 +6,11 @@ use native.Mathlib.Numerals.{add-one}
 use native.Mathlib.Omega.{arith}
 use lib.ListN.{length, get_or, take, length-append}
 use lib.Seq.{take-suc}
+use mir.Syntax.{w16}
+use mir.Val.{Fits}
 use Rattle.decimals.specs.Bytes.{space}
-use Rattle.decimals.specs.Decimal.{max_number}
-use Rattle.labels.specs.Labels.{line_end, labelled}
-use Rattle.arrivals.specs.Arrivals.{arrives_label, by_label, journey_text, arrives_line}
+use Rattle.labels.specs.Labels.{labelled}
+use Rattle.arrivals.specs.Arrivals.{journey_text, arrives_line}
 use Rattle.arrivals.specs.Room.{connection_room, arrival_room}
 use Rattle.decimals.proofs.Digits.{digits_five}
 
@@ -39,17 +40,14 @@ next_room cs i h =
     omega (arith, length-append s t, ap length (journey_turn cs i h), journey_part cs (i + 1))
 
 -- a journey's text has room
-pub journey_room : (cs : List ℕ) → ((i : ℕ) → get_or cs i 0 ≤ max_number) → length (journey_text cs) ≤ connection_room * length cs
+pub journey_room : (cs : List ℕ) → ((i : ℕ) → Fits w16 (get_or cs i 0)) → length (journey_text cs) ≤ connection_room * length cs
 unfolding journey_text
 journey_room [] h = omega arith
 journey_room (c ∷ cs) h =
-    rw length-append (omega (arith, digits_five c (h 0), journey_room cs (λ (i : ℕ). h (suc i))))
+    let first = (h 0).fits in
+    rw length-append (omega (arith, digits_five c (omega arith), journey_room cs (λ (i : ℕ). h (suc i))))
 
--- the line of a journey has room, part by part and as a whole
-module _ (t : ℕ) (cs : List ℕ) (h : t ≤ max_number) (g : (i : ℕ) → get_or cs i 0 ≤ max_number) where
-  pub arrives_parts : length (labelled arrives_label t) + length by_label + length (journey_text cs) + length line_end ≤ arrival_room (length cs)
-  arrives_parts = omega (arith, digits_five t h, journey_room cs g)
-
-  pub arrives_room : length (arrives_line t cs) ≤ arrival_room (length cs)
-  unfolding arrives_line
-  arrives_room = simp length-append (omega (arith, arrives_parts))
+-- the line of a journey has room
+pub arrives_room : (t : ℕ) (cs : List ℕ) → Fits w16 t → ((i : ℕ) → Fits w16 (get_or cs i 0)) → length (arrives_line t cs) ≤ arrival_room (length cs)
+unfolding arrives_line
+arrives_room t cs h g = simp length-append (omega (arith, digits_five t (omega arith), journey_room cs g))

@@ -13,20 +13,20 @@ pub const EMPTY_JOURNEY_ROOM: usize = 17;
 pub const CONNECTION_ROOM: usize = 6;
 
 // The connections of a journey into out from a place on, each after a space; the place after them.
+#[tactic(auto, using(crate::proofs::Lengths::next_room), unfolding(crate::specs::Arrivals::journey_text))]
 fn put_journey(journey: &[u16], out: &mut [u8], at: usize) -> usize
     requires { at + length (journey_text journey.now) ≤ length out.old }
     ensures { Written result out.new out.old at (journey_text journey.now) }
 {
     let mut next = at;
-    let mut i = 0;
-    while i < journey.len() {
-        next = labels::put_labelled(b" ", journey[i] as u32, out, next);
-        i += 1;
+    for connection in journey {
+        next = labels::put_labelled(b" ", *connection as u32, out, next);
     }
     next
 }
 
 // An arrival and the connections of the journey.
+#[tactic(auto, using(decimals::proofs::Digits::digits_five, crate::proofs::Lengths::journey_room))]
 pub fn write_arrival(time: u16, journey: &[u16], out: &mut [u8]) -> usize
     requires { arrival_room (length journey.now) ≤ length out.old }
     ensures { LineIs result out.new out.old (arrives_line time journey.now) }

@@ -1,24 +1,94 @@
-// What a timetable tells beside the graph area's entries: on which board a departure is listed, and when a passenger is ready to leave
-// again.
+// What a timetable and a graph area whose times stand show: on which board a departure is listed, when connections depart and arrive, when
+// a passenger is ready to leave again, and the entries of the departure lists.
 #![tactic(auto)]
 
-ghost use Rattle.std.specs.Prelude.{◌≡◌};
-ghost use Rattle.timetable.specs.Room.{HasConnection};
-ghost use Rattle.boards.specs.Timed.{board_in, ready_in, ReadyRoom};
+ghost use Rattle.std.specs.Prelude.{◌≡◌, ◌+◌, ◌<◌, ◌≤◌, length};
+ghost use Rattle.timetable.specs.Check.{max_transfer_time};
+ghost use Rattle.model.specs.Network.{Sound, last_expected};
+ghost use Rattle.model.specs.Graph.{departure_in, arrival_in, waiting_in, transfer_in, first_in};
+ghost use Rattle.model.specs.Drawn.{graph_length};
+ghost use Rattle.model.specs.Shown.{shown};
+ghost use Rattle.boards.specs.Timed.{board_in, ready_in};
+
+use timetable::Timetable;
 
 // The board on which the departure of connection c is listed: that of its stop.
-pub fn board(file: &[u8], stops: usize, c: usize) -> u16
-    requires { HasConnection file.now stops c }
-    ensures { result ≡ board_in file.now c }
+pub fn board(timetable: Timetable, c: usize) -> u16
+    requires { c < timetable.connections }
+    ensures value { result ≡ board_in timetable.entry.file.now c }
+    ensures below { result < timetable.entry.stops }
 {
-    timetable::from(file, stops, c)
+    timetable.from(c)
 }
 
-// When a passenger who arrives by connection c is ready to leave again.
-pub fn ready(file: &[u8], stops: usize, graph: &[u16], c: usize) -> u16
-    requires { ReadyRoom file.now stops graph.now c }
-    ensures { result ≡ ready_in file.now graph.now c }
-{
-    let stop = timetable::to(file, stops, c) as usize;
-    entries::arrival(graph, c) + timetable::transfer_time(file, stop)
+// An accepted timetable and a graph area that has room for its graph and shows sound times.
+#[derive(Clone, Copy)]
+pub struct Shown<'a> {
+    pub timetable: Timetable<'a>,
+    pub graph: &'a [u16],
+    ghost sound: { Sound (shown timetable.file.now graph.now) },
+    ghost room: { graph_length timetable.file.now ≤ length graph.now },
+}
+
+impl Shown<'_> {
+    // The board on which the departure of connection c is listed.
+    pub fn board(self, c: usize) -> u16
+        requires { c < self.timetable.connections }
+        ensures value { result ≡ board_in self.entry.timetable.file.now c }
+        ensures below { result < self.entry.timetable.stops }
+    {
+        board(self.timetable, c)
+    }
+
+    // The expected departure of connection c.
+    pub fn departure(self, c: usize) -> u16
+        requires { c < self.timetable.connections }
+        ensures value { result ≡ departure_in self.entry.graph.now c }
+        ensures early { result < last_expected }
+    {
+        entries::departure(self.graph, c)
+    }
+
+    // The expected arrival of connection c.
+    pub fn arrival(self, c: usize) -> u16
+        requires { c < self.timetable.connections }
+        ensures value { result ≡ arrival_in self.entry.graph.now c }
+        ensures early { result ≤ last_expected }
+    {
+        entries::arrival(self.graph, c)
+    }
+
+    // When a passenger who arrives by connection c is ready to leave again.
+    pub fn ready(self, c: usize) -> u16
+        requires { c < self.timetable.connections }
+        ensures value { result ≡ ready_in self.entry.timetable.file.now self.entry.graph.now c }
+        ensures early { result ≤ last_expected + max_transfer_time }
+    {
+        let stop = self.timetable.to(c) as usize;
+        self.arrival(c) + self.timetable.transfer_time(stop)
+    }
+
+    // The waiting entry of connection c.
+    pub fn waiting(self, c: usize) -> u16
+        requires { c < self.timetable.connections }
+        ensures { result ≡ waiting_in self.entry.graph.now self.entry.timetable.connections c }
+    {
+        entries::waiting(self.graph, self.timetable.connections, c)
+    }
+
+    // The transfer entry of connection c.
+    pub fn transfer(self, c: usize) -> u16
+        requires { c < self.timetable.connections }
+        ensures { result ≡ transfer_in self.entry.graph.now self.entry.timetable.connections c }
+    {
+        entries::transfer(self.graph, self.timetable.connections, c)
+    }
+
+    // The first departure of board b.
+    pub fn first_departure(self, b: usize) -> u16
+        requires { b < self.timetable.stops }
+        ensures { result ≡ first_in self.entry.graph.now self.entry.timetable.connections b }
+    {
+        entries::first_departure(self.graph, self.timetable.connections, b)
+    }
 }

@@ -7,8 +7,7 @@ use native.Mathlib.Omega.{arith}
 use lib.ListN.{length, drop, length-append, length-reverse, length-drop}
 use lib.Seq.{drop_at, drop-drop}
 use Rattle.timetable.specs.File.{connections}
-use Rattle.timetable.specs.declared.Verdict.{Verdict}
-use Rattle.timetable.specs.declared.Verdict.TheVariants.{Passed, Refused}
+use Rattle.refusals.specs.Answers.{Verdict, Passed, Refused}
 use Rattle.model.specs.Network.{Network}
 use Rattle.model.specs.Times.{network_of}
 use Rattle.model.specs.Predecessors.{predecessors, nowhere, journey_in}

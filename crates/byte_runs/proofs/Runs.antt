@@ -8,17 +8,18 @@ use native.Mathlib.Omega.{arith}
 use lib.ListN.{length, drop}
 use Rattle.numbers.specs.Numbers.{numbers_of, over_bytes}
 use Rattle.numbers.proofs.Areas.{length_numbers}
-use Rattle.timetable.specs.Answers.{Answer, accepted, refused}
+use Rattle.refusals.specs.Answers.{Answer, accepted, refused, Verdict, Passed, Refused}
 use Rattle.timetable.specs.File.{connections}
-use Rattle.timetable.specs.Check.{file_verdict, Counts, counts_of}
-use Rattle.timetable.specs.declared.Verdict.{Verdict}
-use Rattle.timetable.specs.declared.Verdict.TheVariants.{Passed, Refused}
-use Rattle.model.specs.RefusalNumber as refusal
-use Rattle.model.specs.Notices.{Notice, notices_length, area_of, WellFormed}
+use Rattle.timetable.specs.Check.{file_verdict, counts_of}
+use Rattle.timetable.specs.declared.Counts.{Counts}
+use Rattle.refusals.specs.RefusalNumber as refusal
+use Rattle.model.specs.Notices.{notices_length, area_of, WellFormed}
+use Rattle.model.specs.declared.Notice.{Notice}
 use Rattle.model.specs.Day.{Day, Areas}
 use Rattle.model.specs.Drawn.{graph_length, graph_for}
 use Rattle.model.specs.Parts.{part_verdict, verdict, building_parts, room_verdict}
-use Rattle.model.specs.Operations.{Outcome, written, concluded, built, Arrival, enquired}
+use Rattle.model.specs.Operations.{Outcome, written, concluded, built, enquired}
+use Rattle.model.specs.declared.Arrival.{Arrival}
 use Rattle.model.specs.Register.{Call, register_step, kept}
 use Rattle.model.specs.Runs.{called, over_areas, register_of}
 use Rattle.model.proofs.Verdicts.{else_passed, accepted_not_refused}

@@ -2,20 +2,22 @@
 -- before left them, then an enquiry, each by the promise of its function; and the claim about them (demand 3). Assumes nothing.
 use Rattle.std.specs.Prelude.{◌≡◌, false, List, [], ◌∷◌, ℕ, ◌*◌, ◌/◌, ◌%◌, ◌<◌, ◌≤◌, length, get_or, drop}
 use Rattle.numbers.specs.Numbers.{byte_size, numbers_of}
-use Rattle.timetable.specs.Answers.{Answer}
+use Rattle.refusals.specs.Answers.{Answer}
 use Rattle.timetable.specs.File.{connections}
-use Rattle.model.specs.Notices.{Notice, notices_length}
+use Rattle.model.specs.Notices.{notices_length}
+use Rattle.model.specs.declared.Notice.{Notice}
 use Rattle.model.specs.Times.{network_of}
 use Rattle.model.specs.Day.{Day, Areas}
 use Rattle.model.specs.Drawn.{graph_length}
-use Rattle.model.specs.Operations.{built, Arrival, enquired}
+use Rattle.model.specs.Operations.{built, enquired}
+use Rattle.model.specs.declared.Arrival.{Arrival}
 use Rattle.model.specs.Meaning.{Means}
 use Rattle.model.specs.Register.{Call}
 use Rattle.model.specs.Runs.{called, run_of, over_areas, register_of, Held}
 use Rattle.codes.specs.Encoded.{number_size, coded, coded_counts, coded_arrival}
 use Rattle.fronts.specs.Fronts.{lent_bytes}
 use Rattle.coded_updates.specs.Updated.{CodedOutcome, coded_by, OutcomeBytes}
-use Rattle.front_enquiries.specs.Enquired.{EnquiryBytes}
+use Rattle.enquiries.specs.Enquired.{EnquiryBytes}
 
 -- both areas of bytes
 pub record ByteAreas : Type 0 where

@@ -2,7 +2,8 @@
 -- answers. Assumes nothing.
 use Rattle.std.specs.Prelude.{List, ℕ}
 use Rattle.timetable.specs.File.{connections}
-use Rattle.model.specs.Notices.{Notice, notice, entered, struck}
+use Rattle.model.specs.Notices.{entered, struck}
+use Rattle.model.specs.declared.Notice.{Notice}
 use Rattle.model.specs.Day.{Day, Areas}
 use Rattle.model.specs.Parts.{Ask, posting_asks, withdrawal_asks}
 use Rattle.model.specs.Operations.{Outcome, changed}
@@ -10,15 +11,15 @@ use Rattle.calls.specs.declared.Call.{Call}
 use Rattle.calls.specs.declared.Call.TheVariants.{Post, Withdraw}
 
 abbrev pub asks_of : ℕ → Call → List Ask
-asks_of C (Post n c d) = posting_asks C n c d
+asks_of C (Post n) = posting_asks C n.number n.connection n.delay
 asks_of C (Withdraw n) = withdrawal_asks n
 
 abbrev pub standing_after : Call → List Notice → List Notice
-standing_after (Post n c d) ns = entered (notice n c d) ns
+standing_after (Post n) ns = entered n ns
 standing_after (Withdraw n) ns = struck n ns
 
 abbrev pub number_in : Call → ℕ
-number_in (Post n c d) = n
+number_in (Post n) = n.number
 number_in (Withdraw n) = n
 
 -- everything after it

@@ -2,45 +2,40 @@
 #![tactic(auto)]
 
 ghost use Rattle.std.specs.Prelude.{◌≡◌, ℕ};
-ghost use Rattle.timetable.specs.declared.Verdict.TheVariants.{Passed};
+ghost use Rattle.refusals.specs.Answers.{verdict_of, Passed};
 ghost use Rattle.model.specs.Notices.{area_with, rows_of, Standing};
 ghost use Rattle.model.specs.Parts.{asked_verdict};
 ghost use Rattle.calls.specs.Call.{asks_of, standing_after, number_in};
 
-use timetable::Verdict;
+use model::Notice;
+use refusals::Refusal;
 
-// A posting with number, connection and delay, or a withdrawal of a number.
+// A posting of a notice, or a withdrawal of a number.
 #[derive(Clone, Copy)]
 pub enum Call {
-    Post(u16, u16, u16),
+    Post(Notice),
     Withdraw(u16),
 }
 
 // Whether a call passes what it asks of its own numbers, by the notices that stand.
-pub fn call_verdict(notices: &[u16], n: u16, call: Call) -> Verdict
+pub fn call_verdict(notices: &[u16], n: usize, call: Call) -> Result<(), Refusal>
     requires { (C : ℕ) × Standing C notices.now }
-    ensures { result ≡ asked_verdict (rows_of notices.now) (asks_of n call) }
+    ensures { verdict_of result ≡ asked_verdict (rows_of notices.now) (asks_of n call) }
 {
     match call {
-        Call::Post(number, connection, delay) => {
-            asks::posting_verdict(notices, n, number, connection, delay)
-        }
+        Call::Post(notice) => asks::posting_verdict(notices, n, notice),
         Call::Withdraw(number) => asks::withdrawal_verdict(notices, number),
     }
 }
 
 // The notice of a call entered or struck out.
-pub fn note_call(notices: &mut [u16], n: u16, call: Call)
+pub fn note_call(notices: &mut [u16], n: usize, call: Call)
     requires { Standing n notices.old × (asked_verdict (rows_of notices.old) (asks_of n call) ≡ Passed) }
     ensures { notices.new ≡ area_with (standing_after call (rows_of notices.old)) notices.old }
 {
     match call {
-        Call::Post(number, connection, delay) => {
-            amendments::enter(notices, number, connection, delay);
-        }
-        Call::Withdraw(number) => {
-            amendments::strike(notices, number);
-        }
+        Call::Post(notice) => amendments::enter(notices, notice),
+        Call::Withdraw(number) => amendments::strike(notices, number),
     }
 }
 
@@ -49,7 +44,7 @@ pub fn number_of(call: Call) -> u16
     ensures { result ≡ number_in call }
 {
     match call {
-        Call::Post(number, _, _) => number,
+        Call::Post(notice) => notice.number,
         Call::Withdraw(number) => number,
     }
 }

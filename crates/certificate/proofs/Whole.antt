@@ -1,10 +1,9 @@
 -- The steps of the whole check: what each asks and tells of lists that are right. Assumes nothing.
-use mathlib.Core.Path.{◌∙◌}
 use mathlib.Core.List.{List}
-use Prim.Native.Nat.{ℕ, ◌-◌, ◌<◌, ◌≤◌}
+use Prim.Native.Nat.{ℕ, ◌<◌, ◌≤◌}
 use native.Mathlib.Omega.{arith}
-use borrow.Rule.Slice.PartMut.{mid_of}
-use lib.ListN.{replicate}
+use lib.ListN.{replicate, take, length-replicate, get_or-replicate}
+use Rattle.std.proofs.lemmas.List.{take-replicate}
 use Rattle.timetable.specs.Check.{max_stops, max_connections}
 use Rattle.timetable.specs.File.{stops, connections}
 use Rattle.model.specs.Least.{none}
@@ -15,31 +14,27 @@ use Rattle.links.specs.Links.Last.{followed}
 use Rattle.changes.specs.Changes.{ChangeLink}
 use Rattle.certificate.specs.Lists.{AllMarked, LinksRight, ListsRight}
 use Rattle.boards.specs.Timed.{Timed}
-use Rattle.boards.proofs.Fronts.{own_length, own_holds}
 use Rattle.links.specs.Telling.{NextsLinked, NoneMissed}
 use Rattle.certificate.proofs.Links.{links_right, right_first, right_next, right_marked}
 use Rattle.certificate.proofs.Changes.{change_right, right_change}
 
 module _ {f : List ℕ} {s n : ℕ} {g : List ℕ} (l : Timed f s n g) where
   -- before the first link no connection is marked and no board is
-  marks_start : Marks (shown f g) g 0 0 (mid_of 0 (n - 0) (replicate {A = ℕ} max_connections none))
-  marks_start =
+  pub links_start : NextsLinked f g 0 0 (take n (replicate {A = ℕ} max_connections none)) (take s (replicate {A = ℕ} max_stops 0))
+  links_start =
       let few : n ≤ max_connections = omega (arith, l.sound.few, l.opened.connections) in
-      record {
-        long = own_length n max_connections none few ∙ l.opened.connections;
-        each = λ d h. missed (own_holds n max_connections none few d (rw l.opened.connections h)) (λ k b. absurd (omega arith)) (λ k b. absurd (omega arith));
-      }
-
-  lasts_start : Lasts (shown f g) g 0 (mid_of 0 (s - 0) (replicate {A = ℕ} max_stops 0))
-  lasts_start =
-      let few : s ≤ max_stops = omega (arith, l.sound.few_stops, l.opened.stops) in
-      record {
-        long = own_length s max_stops 0 few ∙ l.opened.stops;
-        each = λ b h. followed (own_holds s max_stops 0 few b (rw l.opened.stops h)) (λ c b. absurd (omega arith));
-      }
-
-  pub links_start : NextsLinked f g 0 0 (mid_of 0 (n - 0) (replicate {A = ℕ} max_connections none)) (mid_of 0 (s - 0) (replicate {A = ℕ} max_stops 0))
-  links_start = record { marks = marks_start; lasts = lasts_start }
+      let few_stops : s ≤ max_stops = omega (arith, l.sound.few_stops, l.opened.stops) in
+      simp take-replicate
+      (record {
+        marks = record {
+          long = simp length-replicate l.opened.connections;
+          each = λ d h. missed (get_or-replicate n d none 0 (omega (arith, l.opened.connections))) (λ k b. absurd (omega arith)) (λ k b. absurd (omega arith));
+        };
+        lasts = record {
+          long = simp length-replicate l.opened.stops;
+          each = λ b h. followed (get_or-replicate s b 0 0 (omega (arith, l.opened.stops))) (λ c b. absurd (omega arith));
+        };
+      })
 
   -- each first departure and each waiting entry of right lists is checked
   pub firsts_pass : ListsRight (shown f g) g → (k : ℕ) → k < s → FirstLink (shown f g) g k

@@ -6,9 +6,9 @@ use Prim.Native.Nat.{ℕ, suc, ◌+◌, ◌-◌, ◌<◌, ◌≤◌}
 use native.Mathlib.Omega.{arith}
 use borrow.Author.Tests.{ne_eqb}
 use lib.ListN.{length, take, drop, length-take, length-drop}
+use Rattle.std.proofs.Common.{Some, None, Err}
 use Rattle.decimals.specs.Bytes.{newline}
 use Rattle.decimals.specs.Decimal.{decimal}
-use Rattle.decimals.specs.declared.Number.TheVariants as N
 use Rattle.decimals.proofs.Reading.{decimal_none}
 use Rattle.timetable.proofs.Tests.{by_lt}
 use Rattle.cuts.specs.Cut.{has, before, lines_of}
@@ -16,7 +16,6 @@ use Rattle.gtfs.specs.StopTimes.{number_in}
 use Rattle.cuts.proofs.Cut.{lines_cut, lines_last, lines_some}
 use Rattle.cuts.proofs.Pieces.{piece_taken, piece_after, piece_cut, piece_last}
 use Rattle.change_lists.specs.ChangeText.{line_numbers, lines_read, NumberLine}
-use Rattle.change_lists.specs.declared.Changes.TheVariants as C
 
 -- the one line of no text
 pub no_line : lines_of [] ≡ [] ∷ []
@@ -28,18 +27,18 @@ pub numbers_more : (l t : List ℕ) → line_numbers (l ∷ lines_of t) ≡ numb
 unfolding line_numbers
 numbers_more l t = let s = lines_some t in rw s.2
 
-pub read_more : (l t : List ℕ) (n : ℕ) → decimal l ≡ N.Is n → (k bytes : ℕ)
+pub read_more : (l t : List ℕ) (n : ℕ) → decimal l ≡ Some n → (k bytes : ℕ)
     → lines_read k bytes (l ∷ lines_of t) ≡ lines_read (suc k) bytes (lines_of t)
 unfolding lines_read
 read_more l t n e k bytes = let s = lines_some t in rw (s.2, e)
 
-read_wrong : (l t : List ℕ) → decimal l ≡ N.Unread → (k bytes : ℕ) → lines_read k bytes (l ∷ lines_of t) ≡ C.Wrong k
+read_wrong : (l t : List ℕ) → decimal l ≡ None → (k bytes : ℕ) → lines_read k bytes (l ∷ lines_of t) ≡ Err k
 unfolding lines_read
 read_wrong l t e k bytes = let s = lines_some t in rw (s.2, e)
 
 module _ (text : List ℕ) (at end : ℕ) (ends : end ≡ at + length (before newline (drop at text))) where
   -- no newline ends it
-  pub line_open : at < length text → length text ≤ end → (k bytes : ℕ) → lines_read k bytes (lines_of (drop at text)) ≡ C.Wrong k
+  pub line_open : at < length text → length text ≤ end → (k bytes : ℕ) → lines_read k bytes (lines_of (drop at text)) ≡ Err k
   unfolding lines_read
   line_open s h k bytes =
       let some = ne_eqb (length (drop at text)) 0 (omega (arith, length-drop at text)) in
@@ -53,12 +52,12 @@ module _ (text : List ℕ) (at end : ℕ) (ends : end ≡ at + length (before ne
         ∙ rw (piece_taken newline text at end ends, piece_after newline text at end ends)
 
     -- and it is no decimal
-    pub line_unread : N.Unread ≡ decimal (take (end - at) (drop at text)) → (k bytes : ℕ)
-        → lines_read k bytes (lines_of (drop at text)) ≡ C.Wrong k
+    pub line_unread : None ≡ decimal (take (end - at) (drop at text)) → (k bytes : ℕ)
+        → lines_read k bytes (lines_of (drop at text)) ≡ Err k
     line_unread e k bytes = rw cut (read_wrong (take (end - at) (drop at text)) (drop (end + 1) text) (sym e) k bytes)
 
     -- and it is a decimal
-    pub line_read : (n : ℕ) → N.Is n ≡ decimal (take (end - at) (drop at text)) → NumberLine n (end + 1) text at
+    pub line_read : (n : ℕ) → Some n ≡ decimal (take (end - at) (drop at text)) → NumberLine n (end + 1) text at
     line_read n e = let l = take (end - at) (drop at text) in record {
       longer =
           ⊎_elim
@@ -72,3 +71,6 @@ module _ (text : List ℕ) (at end : ℕ) (ends : end ≡ at + length (before ne
       numbers = rw cut (numbers_more l (drop (end + 1) text) ∙ rw (sym e));
       goes_on = λ (k bytes : ℕ). rw cut (read_more l (drop (end + 1) text) n (sym e) k bytes);
     }
+
+-- what the reading of a line goes by
+pub ruleset lines = (line_open, line_unread, line_read)

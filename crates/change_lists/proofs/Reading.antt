@@ -4,17 +4,23 @@ use mathlib.Core.List.{List, [], ◌∷◌}
 use Prim.Native.Nat.{ℕ, suc, ◌+◌, ◌*◌, ◌/◌, ◌%◌, ◌<◌, ◌≤◌}
 use native.Mathlib.Numerals.{add-one}
 use native.Mathlib.Omega.{arith}
-use lib.ListN.{length, get_or, take, drop, set, length-drop, drop_of_length-le}
+use lib.ListN.{length, get_or, take, drop, length-drop, drop_of_length-le}
 use lib.Seq.{take_all, drop-cons}
+use Rattle.std.proofs.Common.{None, Ok, Err}
+use Rattle.std.specs.Int.{w16, to_le_bytes}
 use Rattle.numbers.specs.Numbers.{byte_size, over_bytes}
 use Rattle.numbers.proofs.Areas.{length_over_bytes}
 use Rattle.numbers.proofs.Bytes.{over_fitting}
 use Rattle.numbers.proofs.Turns.{bytes_turn}
+use Rattle.labels.proofs.Texts.{text_copied}
+use borrow.Rule.Slice.PartMut.{put_mid}
 use Rattle.cuts.specs.Cut.{lines_of}
 use Rattle.change_lists.specs.ChangeText.{line_numbers, lines_read, change_numbers, NumberLine, LineRead, ChangesRead}
-use Rattle.change_lists.specs.declared.Changes.TheVariants as C
-use Rattle.change_lists.specs.declared.Line.TheVariants as L
 use Rattle.change_lists.proofs.Lines.{no_line}
+
+-- a number's two bytes, the low one first
+pub two_bytes : (n : ℕ) → n < 65536 → to_le_bytes w16 n ≡ n % byte_size ∷ n / byte_size ∷ []
+two_bytes n h = let e : n / 256 % 256 ≡ n / 256 = omega arith in ap (λ (b : ℕ). n % 256 ∷ b ∷ []) e
 
 -- the lines up to a place are read, and their numbers stand at the front of an area: what is left gives what the whole gave
 pub record Reading (text before after : List ℕ) (line at : ℕ) : Type 0 where
@@ -42,27 +48,27 @@ module _ {text before after : List ℕ} {line at : ℕ} (r : Reading text before
   reading_length = rw r.stands (length_over_bytes (take line (change_numbers text)) before)
 
   -- one line more
-  pub reading_turn : length text ≤ length before → {n next : ℕ} → NumberLine n next text at
-      → Reading text before (set (set after (2 * line) (n % byte_size)) (2 * line + 1) (n / byte_size)) (line + 1) next
-  reading_turn fits {n} {next} l =
+  pub reading_turn : length text ≤ length before → {n next : ℕ} → NumberLine n next text at → {bytes : List ℕ}
+      → bytes ≡ n % byte_size ∷ n / byte_size ∷ [] → {k : ℕ} → k ≡ 2
+      → Reading text before (put_mid (2 * line) k after bytes) (line + 1) next
+  reading_turn fits {n} {next} l {bytes} b {k} two =
       let ns = change_numbers text in
       let e : drop line ns ≡ n ∷ change_numbers (drop next text) = r.left ∙ l.numbers in
       let h : line < length ns = omega (arith, length-drop line ns, ap length e) in
       let d = sym e ∙ drop-cons ns line 0 h in
       let v : n ≡ get_or ns line 0 = cc d in
+      let w = text_copied after (n % byte_size ∷ n / byte_size ∷ []) bytes (2 * line) k b two (omega (arith, r.short, l.longer, l.within, reading_length)) in
       record {
         place = l.within;
         short = omega (arith, r.short, l.longer);
         counted = omega arith;
         left = rw (add-one line) (cc d);
         goes_on = λ (bytes : ℕ). rw (add-one line) (r.goes_on bytes ∙ l.goes_on (suc line) bytes);
-        stands =
-            rw (r.stands, v)
-            (bytes_turn ns before line h (omega (arith, r.short, l.longer, l.within)));
+        stands = w.stands ∙ rw (r.stands, v, ← add-one (2 * line)) (bytes_turn ns before line h (omega (arith, r.short, l.longer, l.within)));
       }
 
   -- a wrong line
-  pub reading_wrong : LineRead L.Wrong text at → ChangesRead (C.Wrong (line + 1)) after before text
+  pub reading_wrong : LineRead None text at → ChangesRead (Err (line + 1)) after before text
   reading_wrong w = record {
     told = rw (add-one line) (sym (r.goes_on _ ∙ w (suc line) _));
     within = λ (n : ℕ) e. absurd (let z : ◌≡◌ {A = ℕ} 0 1 = cc in omega arith);
@@ -70,7 +76,7 @@ module _ {text before after : List ℕ} {line at : ℕ} (r : Reading text before
   }
 
   -- no line is left
-  pub reading_ends : length text ≤ length before → length text ≤ at → ChangesRead (C.Bytes (2 * line)) after before text
+  pub reading_ends : length text ≤ length before → length text ≤ at → ChangesRead (Ok (2 * line)) after before text
   unfolding line_numbers lines_read
   reading_ends fits h =
       let ns = change_numbers text in
@@ -80,10 +86,10 @@ module _ {text before after : List ℕ} {line at : ℕ} (r : Reading text before
       let over : after ≡ over_bytes ns before = r.stands ∙ rw (take_all line ns (omega arith)) in
       record {
         told = sym (r.goes_on (2 * length ns) ∙ rw (d, no_line, ← all));
-        within = λ (n : ℕ) (b : C.Bytes (2 * line) ≡ C.Bytes n).
+        within = λ (n : ℕ) (b : Ok (2 * line) ≡ Ok n).
             let same : 2 * line ≡ n = cc in
             omega (arith, ap length over, length_over_bytes ns before, r.short, r.place);
-        stands = λ (n : ℕ) (b : C.Bytes (2 * line) ≡ C.Bytes n).
+        stands = λ (n : ℕ) (b : Ok (2 * line) ≡ Ok n).
             let same : 2 * line ≡ n = cc in
             over ∙ over_fitting ns before (omega (arith, r.short, r.place)) ∙ rw (← same, ← all);
       }

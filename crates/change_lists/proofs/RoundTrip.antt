@@ -5,6 +5,7 @@ use mathlib.Core.List.{List, [], ◌∷◌, append_assoc}
 use Prim.Native.Nat.{ℕ, suc, ◌*◌, ◌≤◌}
 use native.Mathlib.Omega.{arith}
 use lib.ListN.{length, get_or}
+use Rattle.std.proofs.Common.{Ok}
 use Rattle.numbers.specs.Numbers.{numbers_of}
 use Rattle.timetable.specs.File.{stops}
 use Rattle.timetable.specs.Accepted.{Timetable}
@@ -16,7 +17,6 @@ use Rattle.gtfs.specs.Files.{transfers_in}
 use Rattle.cuts.proofs.Cut.{digits_without, line_more}
 use Rattle.gtfs.proofs.Transfers.{count_transfers, transfers_low}
 use Rattle.change_lists.specs.ChangeText.{line_numbers, lines_read, change_numbers, numbers_text, changes_text}
-use Rattle.change_lists.specs.declared.Changes.TheVariants as C
 use Rattle.change_lists.proofs.Lines.{no_line, numbers_more, read_more}
 
 -- the line of a number in front of others
@@ -36,7 +36,7 @@ numbers_read (n ∷ ns) h =
 
 -- and each line is read
 lines_right : (ns : List ℕ) → ((i : ℕ) → get_or ns i 0 ≤ max_number) → (k bytes : ℕ)
-    → lines_read k bytes (lines_of (numbers_text ns)) ≡ C.Bytes bytes
+    → lines_read k bytes (lines_of (numbers_text ns)) ≡ Ok bytes
 unfolding numbers_text lines_read
 lines_right [] h k bytes = rw no_line
 lines_right (n ∷ ns) h k bytes =
@@ -52,7 +52,7 @@ module _ (f : List ℕ) (t : Timetable f) where
   changes_again = numbers_read (numbers_of (transfers_in f)) small
 
   -- and are read whole, two bytes for each stop
-  pub changes_whole : lines_read 1 (2 * length (change_numbers (changes_text f))) (lines_of (changes_text f)) ≡ C.Bytes (2 * stops f)
+  pub changes_whole : lines_read 1 (2 * length (change_numbers (changes_text f))) (lines_of (changes_text f)) ≡ Ok (2 * stops f)
   changes_whole =
       lines_right (numbers_of (transfers_in f)) small 1 (2 * length (change_numbers (changes_text f)))
       ∙ rw (changes_again, count_transfers f t)

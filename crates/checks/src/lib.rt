@@ -1,81 +1,58 @@
-// The refusals of both areas, 21 to 24, and the counts of a timetable whose areas pass.
+// The refusals of both areas, 21 to 24, and a timetable whose areas pass.
 #![tactic(auto)]
 
-ghost use Rattle.std.specs.Prelude.{◌≡◌};
-ghost use Rattle.timetable.specs.Accepted.{Timetable};
-ghost use Rattle.timetable.specs.Check.{told_counts};
-ghost use Rattle.timetable.specs.declared.Verdict.TheVariants.{Passed};
+ghost use Rattle.std.specs.Prelude.{◌≡◌, IfOk};
+ghost use Rattle.refusals.specs.Answers.{verdict_of, Passed};
 ghost use Rattle.model.specs.Day.{day_of, lent};
-ghost use Rattle.model.specs.Parts.{room_verdict, contents_verdict, areas_verdict, examined};
+ghost use Rattle.model.specs.Parts.{room_verdict, contents_verdict, areas_verdict, open_verdict};
 
-use model::refusal;
-use timetable::{Checked, Verdict};
+use refusals::{Reason, Refusal};
+use timetable::Timetable;
 
 // Refusals 21 and 22.
-pub fn room_verdict(file: &[u8], notices: &[u16], graph: &[u16]) -> Verdict
-    requires { Timetable file.now }
-    ensures { result ≡ room_verdict (day_of file.now) (lent notices.now graph.now) }
+pub fn room_verdict(timetable: Timetable, notices: &[u16], graph: &[u16]) -> Result<(), Refusal>
+    ensures { verdict_of result
+        ≡ room_verdict (day_of timetable.entry.file.now) (lent notices.now graph.now) }
 {
     if notices.len() < model::NOTICES_LENGTH {
-        return Verdict::Refused(refusal::SHORT_NOTICES, 0);
+        return Err(Refusal(Reason::ShortNotices, 0));
     }
-    let s = timetable::stops(file) as usize;
-    let n = timetable::connections(file) as usize;
+    let s = timetable.stops;
+    let n = timetable.connections;
     if graph.len() < 4 * n + s {
-        return Verdict::Refused(refusal::SHORT_GRAPH, 0);
+        return Err(Refusal(Reason::ShortGraph, 0));
     }
-    Verdict::Passed
+    Ok(())
 }
 
 // Refusals 23 and 24.
-pub fn contents_verdict(file: &[u8], notices: &[u16], graph: &[u16]) -> Verdict
-    requires { Timetable file.now × (room_verdict (day_of file.now) (lent notices.now graph.now) ≡ Passed) }
-    ensures { result ≡ contents_verdict (day_of file.now) (lent notices.now graph.now) }
+pub fn contents_verdict(timetable: Timetable, notices: &[u16], graph: &[u16]) -> Result<(), Refusal>
+    requires { room_verdict (day_of timetable.file.now) (lent notices.now graph.now) ≡ Passed }
+    ensures { verdict_of result
+        ≡ contents_verdict (day_of timetable.entry.file.now) (lent notices.now graph.now) }
 {
-    let stops = timetable::stops(file) as usize;
-    let connections = timetable::connections(file);
-    let verdict = rows::check_rows(notices, connections);
-    match verdict {
-        Verdict::Refused(number, place) => {
-            return Verdict::Refused(number, place);
-        }
-        Verdict::Passed => {}
+    rows::check_rows(notices, timetable.connections)?;
+    if matching::is_graph(timetable, notices, graph) {
+        return Ok(());
     }
-    if matching::is_graph(file, stops, connections as usize, notices, graph) {
-        return Verdict::Passed;
-    }
-    Verdict::Refused(refusal::WRONG_GRAPH, 0)
+    Err(Refusal(Reason::WrongGraph, 0))
 }
 
 // Refusals 21 to 24.
-fn areas_verdict(file: &[u8], notices: &[u16], graph: &[u16]) -> Verdict
-    requires { Timetable file.now }
-    ensures { result ≡ areas_verdict (day_of file.now) (lent notices.now graph.now) }
+fn areas_verdict(timetable: Timetable, notices: &[u16], graph: &[u16]) -> Result<(), Refusal>
+    ensures { verdict_of result
+        ≡ areas_verdict (day_of timetable.entry.file.now) (lent notices.now graph.now) }
 {
-    let verdict = room_verdict(file, notices, graph);
-    match verdict {
-        Verdict::Refused(number, place) => {
-            return Verdict::Refused(number, place);
-        }
-        Verdict::Passed => {}
-    }
-    contents_verdict(file, notices, graph)
+    room_verdict(timetable, notices, graph)?;
+    contents_verdict(timetable, notices, graph)
 }
 
-// The counts of an accepted timetable whose areas are right, or the first of refusals 1 to 11 and 21 to 24.
-pub fn examine(file: &[u8], notices: &[u16], graph: &[u16]) -> Checked
-    ensures { told_counts result ≡ examined (day_of file.now) (lent notices.now graph.now) }
+// An accepted timetable whose areas are right, or the first of refusals 1 to 11 and 21 to 24.
+pub fn examine<'a>(file: &'a [u8], notices: &[u16], graph: &[u16]) -> Result<Timetable<'a>, Refusal>
+    ensures verdict { verdict_of result ≡ open_verdict (day_of file.now) (lent notices.now graph.now) }
+    ensures of_the_file { IfOk result (λ timetable. timetable.file.now ≡ file.now) }
 {
-    let checked = acceptance::check(file);
-    let Checked::Accepted(stops, connections) = checked else {
-        return checked;
-    };
-    let verdict = areas_verdict(file, notices, graph);
-    match verdict {
-        Verdict::Refused(number, place) => {
-            return Checked::Refused(number, place);
-        }
-        Verdict::Passed => {}
-    }
-    Checked::Accepted(stops, connections)
+    let timetable = acceptance::open(file)?;
+    areas_verdict(timetable, notices, graph)?;
+    Ok(timetable)
 }

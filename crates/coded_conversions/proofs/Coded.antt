@@ -2,7 +2,7 @@
 use mathlib.Core.Path.{◌≡◌, ◌∙◌, ap}
 use mathlib.Core.List.{List}
 use Prim.Native.Nat.{ℕ}
-use Rattle.timetable.specs.Answers.{Answer}
+use Rattle.refusals.specs.Answers.{Answer}
 use Rattle.gtfs.specs.Conversions.{Conversion, conversion}
 use Rattle.coded_conversions.specs.Coded.{coded_bytes, ConversionCoded}
 

@@ -1,6 +1,6 @@
 -- The answers of import and export in numbers for C, and what is left in the output area. Assumes nothing.
 use Rattle.std.specs.Prelude.{◌≡◌, List, ℕ, ◌%◌, ◌^◌}
-use Rattle.timetable.specs.Answers.{Answer, accepted, refused}
+use Rattle.refusals.specs.Answers.{Answer, accepted, refused}
 use Rattle.codes.specs.Encoded.{pair}
 use Rattle.gtfs.specs.Conversions.{Conversion}
 

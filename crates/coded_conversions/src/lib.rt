@@ -2,10 +2,12 @@
 #![tactic(auto)]
 
 ghost use Rattle.std.specs.Prelude.{◌≡◌};
-ghost use Rattle.gtfs.specs.Conversions.{imported, exported, told_bytes};
+ghost use Rattle.gtfs.specs.Conversions.{imported, exported};
+ghost use Rattle.refusals.specs.Answers.{told};
 ghost use Rattle.coded_conversions.specs.Coded.{coded_bytes, ConversionCoded};
 
 use gtfs::Converted;
+use refusals::Refusal;
 
 // How many values a number of 16 bits has, and the value of an answer: `number_size` and `value_size`.
 const NUMBER_SIZE: u64 = 65536;
@@ -14,11 +16,11 @@ const VALUE_SIZE: u64 = 281474976710656;
 
 // The answer of an import or an export.
 fn code_converted(converted: Converted) -> u64
-    ensures { result ≡ coded_bytes (told_bytes converted) }
+    ensures { result ≡ coded_bytes (told converted) }
 {
     match converted {
-        Converted::Bytes(bytes) => NUMBER_SIZE * (bytes as u64 % VALUE_SIZE),
-        Converted::Refused(number, place) => number as u64
+        Ok(bytes) => NUMBER_SIZE * (bytes as u64 % VALUE_SIZE),
+        Err(Refusal(reason, place)) => reason.number() as u64
             + NUMBER_SIZE * (place as u64 % VALUE_SIZE),
     }
 }

@@ -2,20 +2,13 @@
 // refusal's, with its place for a value.
 #![tactic(auto)]
 
-ghost use Rattle.std.specs.Prelude.{◌≡◌};
-ghost use Rattle.timetable.specs.Answers.{is_accepted};
-ghost use Rattle.timetable.specs.Check.{told_counts};
-ghost use Rattle.graph.specs.Answers.{told_number};
-ghost use Rattle.journeys.specs.Reading.{told_arrival};
-ghost use Rattle.margins.specs.Margin.{told_margin};
-ghost use Rattle.causes.specs.Cause.{told_primary};
-ghost use Rattle.codes.specs.Encoded.{pair, coded, coded_counts, coded_arrival, coded_margin, coded_primary};
+ghost use Rattle.std.specs.Prelude.{◌≡◌, ℕ, is_ok};
+ghost use Rattle.refusals.specs.Answers.{is_accepted, told};
+ghost use Rattle.codes.specs.Encoded.{pair, code_in, coded_with, coded_margin, counts_value, arrival_value, primary_value};
 
-use causes::Explained;
-use graph::Noted;
-use journeys::Enquired;
-use margins::Margined;
-use timetable::Checked;
+use model::{Arrival, PrimaryDelay};
+use refusals::Refusal;
+use timetable::Counts;
 
 // How many values a number of 16 bits has.
 const NUMBER_SIZE: u64 = 65536;
@@ -30,72 +23,81 @@ fn answer_of(number: u16, low: u16, high: u16) -> u64
     number as u64 + NUMBER_SIZE * (low as u64 + NUMBER_SIZE * high as u64)
 }
 
-// The answer of a check or a building.
-pub fn code_counts(checked: Checked) -> u64
-    ensures { result ≡ coded_counts (told_counts checked) }
-{
-    match checked {
-        Checked::Accepted(stops, connections) => answer_of(0, stops, connections),
-        Checked::Refused(number, place) => answer_of(number, place, 0),
+// What an accepted call answers, as one value of two halves.
+pub trait Halves {
+    ghost value: { Self → ℕ };
+
+    // The low half and the high one.
+    fn halves(self) -> (u16, u16)
+        ensures { pair result.0 result.1 ≡ value self };
+}
+
+// A check's and a building's: how many stops and connections.
+impl Halves for Counts {
+    ghost value = { counts_value };
+
+    fn halves(self) -> (u16, u16) {
+        (self.stops, self.connections)
     }
 }
 
-// Whether a check or a building was accepted.
-pub fn counts_accepted(checked: Checked) -> bool
-    ensures { result ≡ is_accepted (told_counts checked) }
-{
-    match checked {
-        Checked::Accepted(_, _) => true,
-        Checked::Refused(_, _) => false,
+// A posting's and a withdrawal's: the notice's number.
+impl Halves for u16 {
+    ghost value = { λ number. number };
+
+    fn halves(self) -> (u16, u16) {
+        (self, 0)
     }
 }
 
-// The answer of a posting or a withdrawal.
-pub fn code_noted(noted: Noted) -> u64
-    ensures { result ≡ coded (told_number noted) }
-{
-    match noted {
-        Noted::Accepted(number) => answer_of(0, number, 0),
-        Noted::Refused(number, place) => answer_of(number, place, 0),
+// An enquiry's: the arrival and how many connections.
+impl Halves for Arrival {
+    ghost value = { arrival_value };
+
+    fn halves(self) -> (u16, u16) {
+        (self.time, self.connections)
     }
 }
 
-// Whether a posting or a withdrawal was accepted.
-pub fn noted_accepted(noted: Noted) -> bool
-    ensures { result ≡ is_accepted (told_number noted) }
-{
-    match noted {
-        Noted::Accepted(_) => true,
-        Noted::Refused(_, _) => false,
+// Why's: the delay and the notice that gives it.
+impl Halves for PrimaryDelay {
+    ghost value = { primary_value };
+
+    fn halves(self) -> (u16, u16) {
+        (self.delay, self.notice)
     }
 }
 
-// The answer of an enquiry.
-pub fn code_arrival(enquired: Enquired) -> u64
-    ensures { result ≡ coded_arrival (told_arrival enquired) }
+// An answer with a value of two halves.
+pub fn code<V: Halves>(answer: Result<V, Refusal>) -> u64
+    ensures { result ≡ coded_with V.value (told answer) }
 {
-    match enquired {
-        Enquired::Arrives(time, connections) => answer_of(0, time, connections),
-        Enquired::Refused(number, place) => answer_of(number, place, 0),
+    match answer {
+        Ok(value) => {
+            let (low, high) = value.halves();
+            answer_of(0, low, high)
+        }
+        Err(Refusal(reason, place)) => answer_of(reason.number(), place, 0),
+    }
+}
+
+// The same, an accepted call's code apart from a refusal's.
+pub fn code_apart<V: Halves>(answer: Result<V, Refusal>) -> Result<u64, u64>
+    ensures code { code_in result ≡ coded_with V.value (told answer) }
+    ensures accepted { is_ok result ≡ is_accepted (told answer) }
+{
+    match answer {
+        Ok(_) => Ok(code(answer)),
+        Err(_) => Err(code(answer)),
     }
 }
 
 // The answer of a margin.
-pub fn code_margin(margined: Margined) -> i64
-    ensures { result ≡ coded_margin (told_margin margined) }
+pub fn code_margin(answer: Result<i32, Refusal>) -> i64
+    ensures { result ≡ coded_margin (told answer) }
 {
-    match margined {
-        Margined::Minutes(minutes) => SIGNED_SIZE * minutes as i64,
-        Margined::Refused(number, place) => answer_of(number, place, 0) as i64,
-    }
-}
-
-// The answer of why.
-pub fn code_primary(explained: Explained) -> u64
-    ensures { result ≡ coded_primary (told_primary explained) }
-{
-    match explained {
-        Explained::Primary(primary) => answer_of(0, primary.delay, primary.notice),
-        Explained::Refused(number, place) => answer_of(number, place, 0),
+    match answer {
+        Ok(minutes) => SIGNED_SIZE * minutes as i64,
+        Err(Refusal(reason, place)) => answer_of(reason.number(), place, 0) as i64,
     }
 }

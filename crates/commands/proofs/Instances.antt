@@ -2,11 +2,12 @@
 use mathlib.Core.Path.{◌≡◌, refl}
 use mathlib.Core.List.{[], ◌∷◌, map}
 use lib.ListN.{replicate}
+use Rattle.std.proofs.Common.{Some, None}
 use Rattle.decimals.specs.Decimal.{all_digits, value_after, decimal}
 use Rattle.cuts.specs.Cut.{pieces}
 use Rattle.model.specs.Drawn.{same}
 use Rattle.meanings.specs.Meanings.{asked}
-use Rattle.meanings.specs.declared.Command.TheVariants.{Post, Withdraw, Enquire, Margin, Unreadable}
+use Rattle.meanings.specs.declared.Command.TheVariants.{Post, Withdraw, Enquire, Margin}
 use Rattle.commands.specs.Commands.{meant, command_of}
 
 -- "p 7 1 10", "w 65535", "w 00007", "q 0 2 595", "m 0 4"
@@ -17,7 +18,7 @@ pub lines_read : map command_of
     (113 ∷ 32 ∷ 48 ∷ 32 ∷ 50 ∷ 32 ∷ 53 ∷ 57 ∷ 53 ∷ 10 ∷ []) ∷
     (109 ∷ 32 ∷ 48 ∷ 32 ∷ 52 ∷ 10 ∷ []) ∷
     [])
-    ≡ Post 7 1 10 ∷ Withdraw 65535 ∷ Withdraw 7 ∷ Enquire 0 2 595 ∷ Margin 0 4 ∷ []
+    ≡ Some (Post 7 1 10) ∷ Some (Withdraw 65535) ∷ Some (Withdraw 7) ∷ Some (Enquire 0 2 595) ∷ Some (Margin 0 4) ∷ []
 unfolding command_of meant asked same pieces decimal all_digits value_after
 lines_read = refl
 
@@ -37,6 +38,6 @@ pub lines_unread : map command_of
     (120 ∷ 32 ∷ 55 ∷ 10 ∷ []) ∷
     (119 ∷ 32 ∷ 0 ∷ 10 ∷ []) ∷
     [])
-    ≡ replicate 12 Unreadable
+    ≡ replicate 12 None
 unfolding command_of meant asked same pieces decimal all_digits value_after
 lines_unread = refl

@@ -1,2 +1,3 @@
 pub mod Words
+pub mod Lines
 pub mod Instances

@@ -2,16 +2,19 @@
 #![tactic(auto)]
 
 ghost use Rattle.std.specs.Prelude.{◌≡◌, ◌-◌, ◌<◌};
-ghost use Rattle.timetable.specs.Room.{HasConnection};
+ghost use Rattle.timetable.specs.Room.{HoldsConnection};
 ghost use Rattle.timetable.specs.Check.{wrong_stops, wrong_trip, wrong_times, breaks_off, wrong_join};
 
+use timetable::Fields;
+
 // 8: from and to differ and are stops.
-pub fn wrong_stops(file: &[u8], stops: usize, c: usize) -> bool
-    requires { HasConnection file.now stops c }
-    ensures { result ≡ wrong_stops file.now c }
+pub fn wrong_stops(fields: Fields, c: usize) -> bool
+    requires { HoldsConnection fields.file.now fields.stops c }
+    ensures { result ≡ wrong_stops fields.entry.file.now c }
 {
-    let start = timetable::from(file, stops, c);
-    let end = timetable::to(file, stops, c);
+    let start = fields.from(c);
+    let end = fields.to(c);
+    let stops = fields.stops;
     if stops <= start as usize {
         return true;
     }
@@ -22,15 +25,15 @@ pub fn wrong_stops(file: &[u8], stops: usize, c: usize) -> bool
 }
 
 // 9: trip 0 first, then the trip of the connection before or one more.
-pub fn wrong_trip(file: &[u8], stops: usize, c: usize) -> bool
-    requires { HasConnection file.now stops c }
-    ensures { result ≡ wrong_trip file.now c }
+pub fn wrong_trip(fields: Fields, c: usize) -> bool
+    requires { HoldsConnection fields.file.now fields.stops c }
+    ensures { result ≡ wrong_trip fields.entry.file.now c }
 {
-    let own = timetable::trip(file, stops, c);
+    let own = fields.trip(c);
     if c == 0 {
         return own != 0;
     }
-    let before = timetable::trip(file, stops, c - 1);
+    let before = fields.trip(c - 1);
     if own < before {
         return true;
     }
@@ -38,12 +41,12 @@ pub fn wrong_trip(file: &[u8], stops: usize, c: usize) -> bool
 }
 
 // 10: departure before arrival, arrival within the timetable.
-pub fn wrong_times(file: &[u8], stops: usize, c: usize) -> bool
-    requires { HasConnection file.now stops c }
-    ensures { result ≡ wrong_times file.now c }
+pub fn wrong_times(fields: Fields, c: usize) -> bool
+    requires { HoldsConnection fields.file.now fields.stops c }
+    ensures { result ≡ wrong_times fields.entry.file.now c }
 {
-    let departure = timetable::scheduled_departure(file, stops, c);
-    let arrival = timetable::scheduled_arrival(file, stops, c);
+    let departure = fields.scheduled_departure(c);
+    let arrival = fields.scheduled_arrival(c);
     if arrival <= departure {
         return true;
     }
@@ -51,24 +54,23 @@ pub fn wrong_times(file: &[u8], stops: usize, c: usize) -> bool
 }
 
 // Whether connection c starts elsewhere or earlier than the one before it arrives.
-fn breaks_off(file: &[u8], stops: usize, c: usize) -> bool
-    requires { HasConnection file.now stops c × (0 < c) }
-    ensures { result ≡ breaks_off file.now (c - 1) c }
+fn breaks_off(fields: Fields, c: usize) -> bool
+    requires { HoldsConnection fields.file.now fields.stops c × (0 < c) }
+    ensures { result ≡ breaks_off fields.entry.file.now (c - 1) c }
 {
-    if timetable::from(file, stops, c) != timetable::to(file, stops, c - 1) {
+    if fields.from(c) != fields.to(c - 1) {
         return true;
     }
-    timetable::scheduled_departure(file, stops, c)
-        < timetable::scheduled_arrival(file, stops, c - 1)
+    fields.scheduled_departure(c) < fields.scheduled_arrival(c - 1)
 }
 
 // 11: within a trip, a connection starts where and not before the one before it arrives.
-pub fn wrong_join(file: &[u8], stops: usize, c: usize) -> bool
-    requires { HasConnection file.now stops c }
-    ensures { result ≡ wrong_join file.now c }
+pub fn wrong_join(fields: Fields, c: usize) -> bool
+    requires { HoldsConnection fields.file.now fields.stops c }
+    ensures { result ≡ wrong_join fields.entry.file.now c }
 {
-    if timetable::stays_aboard(file, stops, c) {
-        return breaks_off(file, stops, c);
+    if fields.stays_aboard(c) {
+        return breaks_off(fields, c);
     }
     false
 }

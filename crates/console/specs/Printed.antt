@@ -1,8 +1,9 @@
 -- What the program prints for a file and an input. No contract can say that it does: the stored runs and tests/desk hold it to this.
 -- Assumes nothing.
 use Rattle.std.specs.Prelude.{List, [], ◌++◌, ℕ, replicate}
-use Rattle.timetable.specs.Answers.{Answer, accepted, refused}
-use Rattle.timetable.specs.Check.{max_connections, Counts}
+use Rattle.refusals.specs.Answers.{Answer, accepted, refused}
+use Rattle.timetable.specs.Check.{max_connections}
+use Rattle.timetable.specs.declared.Counts.{Counts}
 use Rattle.model.specs.Notices.{notices_length}
 use Rattle.model.specs.Day.{day_of, lent}
 use Rattle.model.specs.Drawn.{most_graph}

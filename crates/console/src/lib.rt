@@ -5,12 +5,11 @@
 ghost use Rattle.std.specs.Prelude.{◌≤◌, length};
 ghost use Rattle.timetable.specs.Check.{max_connections};
 ghost use Rattle.labels.specs.Room.{line_room};
-ghost use Rattle.streams.specs.Room.{InBlock};
 
+use files::Failed;
 use std::io;
 use std::io::{Eprint, Print, Read};
 use std::rt::Files;
-use streams::Input;
 
 // Room for the file: one byte more than the longest timetable has.
 const FILE_ROOM: usize = timetable::HEADER_LENGTH
@@ -24,29 +23,6 @@ const BLOCK_ROOM: usize = 65536;
 // Room for a block of the output, and for the longest answer behind it.
 const OUT_ROOM: usize = BLOCK_ROOM + dialogue::ANSWER_ROOM;
 
-// Works the input as far as there is room for the answers, and writes them; the input to go on with.
-fn round(
-    rt: &(impl Print + Eprint),
-    reader: &mut impl Read,
-    file: &[u8],
-    notices: &mut [u16],
-    graph: &mut [u16],
-    work: &mut [u16],
-    journey: &mut [u16],
-    out: &mut [u8],
-    block: &mut [u8],
-    input: Input,
-) -> Input
-    requires { (length journey.old ≤ max_connections) × InBlock input (length block.old) }
-    ensures { InBlock result (length block.new) }
-{
-    let at = input.at;
-    let end = input.end;
-    let done = dialogue::work_block(file, notices, graph, work, journey, out, &block[at..end]);
-    let written = streams::print(rt, out, done.size);
-    streams::next_input(rt, reader, block, at + done.at, end, written, done.full)
-}
-
 // Answers the lines of standard input that a newline ends; whether a last line comes after them.
 fn work_lines(
     rt: &(impl Print + Eprint),
@@ -58,50 +34,50 @@ fn work_lines(
     journey: &mut [u16],
     out: &mut [u8],
     block: &mut [u8],
-) -> bool
+) -> Result<bool, Failed>
     requires { length journey.old ≤ max_connections }
 {
-    let mut input = Input {
-        at: 0,
-        end: 0,
-        going: true,
-    };
-    let mut left = u64::MAX;
-    while left > 0 {
-        input = round(
-            rt, reader, file, notices, graph, work, journey, out, block, input,
-        );
-        if !input.going {
-            return input.end > 0;
+    // Where the bytes of the block that are not worked yet start and end.
+    let mut at = 0;
+    let mut end = 0;
+    for _ in 0..u64::MAX {
+        let done = dialogue::work_block(file, notices, graph, work, journey, out, &block[at..end]);
+        streams::print(rt, &out[..done.size])?;
+        at += done.at;
+        if !done.full {
+            let held = input::hold(block, at, end);
+            let more = streams::read(rt, reader, &mut block[held..])?;
+            if more == 0 {
+                return Ok(held > 0);
+            }
+            at = 0;
+            end = held + more;
         }
-        left -= 1;
     }
-    false
+    Ok(false)
 }
 
 // Answers a last line that no newline ends.
-fn work_last(rt: &(impl Print + Eprint), out: &mut [u8])
+fn work_last(rt: &(impl Print + Eprint), out: &mut [u8]) -> Result<(), Failed>
     requires { line_room ≤ length out.old }
 {
     let n = ends::work_unended(out);
-    streams::print(rt, out, n);
+    streams::print(rt, &out[..n])
 }
 
-// Builds and prints the counts or the refusal; whether the timetable is accepted and that is printed.
+// Builds and prints the counts or the refusal; whether the timetable is accepted.
 fn begin(
     rt: &(impl Print + Eprint),
     file: &[u8],
     notices: &mut [u16],
     graph: &mut [u16],
     out: &mut [u8],
-) -> bool
+) -> Result<bool, Failed>
     requires { line_room ≤ length out.old }
 {
     let begun = ends::begin(file, notices, graph, out);
-    if !streams::print(rt, out, begun.size) {
-        return false;
-    }
-    begun.accepted
+    streams::print(rt, &out[..begun.size])?;
+    Ok(begun.accepted)
 }
 
 // Answers standard input.
@@ -111,7 +87,7 @@ fn work_input(
     notices: &mut [u16],
     graph: &mut [u16],
     out: &mut [u8],
-)
+) -> Result<(), Failed>
     requires { line_room ≤ length out.old }
 {
     let mut work = [0u16; timetable::MAX_CONNECTIONS];
@@ -128,19 +104,26 @@ fn work_input(
         &mut journey,
         out,
         &mut block,
-    ) {
-        work_last(rt, out);
+    )? {
+        work_last(rt, out)?;
     }
+    Ok(())
 }
 
-// The whole desk.
-pub fn run(rt: &(impl Files + io::Input + Print + Eprint)) {
-    let mut file = [0u8; FILE_ROOM];
-    let n = streams::load(rt, &mut file);
+// The desk with a file.
+fn work(rt: &(impl io::Input + Print + Eprint), file: &[u8]) -> Result<(), Failed> {
     let mut notices = [0u16; model::NOTICES_LENGTH];
     let mut graph = [0u16; model::MOST_GRAPH];
     let mut out = [0u8; OUT_ROOM];
-    if begin(rt, &file[0..n], &mut notices, &mut graph, &mut out) {
-        work_input(rt, &file[0..n], &mut notices, &mut graph, &mut out);
+    if begin(rt, file, &mut notices, &mut graph, &mut out)? {
+        work_input(rt, file, &mut notices, &mut graph, &mut out)?;
     }
+    Ok(())
+}
+
+// The whole desk. It stops where something fails, which is told by then.
+pub fn run(rt: &(impl Files + io::Input + Print + Eprint)) {
+    let mut file = [0u8; FILE_ROOM];
+    let n = streams::load(rt, &mut file);
+    let _ = work(rt, &file[..n]);
 }

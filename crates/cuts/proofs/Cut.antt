@@ -11,7 +11,7 @@ use lib.ListN.{length, get_or, take, drop}
 use lib.Seq.{drop-cons}
 use Rattle.decimals.specs.Bytes.{newline}
 use Rattle.decimals.specs.Decimal.{is_digit, all_digits, decimal}
-use Rattle.decimals.specs.declared.Number.TheVariants.{Is, Unread}
+use Rattle.std.proofs.Common.{Some, None}
 use Rattle.cuts.specs.Cut.{has, before, after, starts_with, on_first, pieces, lines_of}
 use Rattle.timetable.proofs.Tests.{by_bool, and_left, and_right, not_both, both_fail}
 
@@ -138,12 +138,12 @@ module _ (byte : ℕ) where
       (by_bool (eqb b byte))
 
   -- and so is a word that is read as a number
-  pub number_without : is_digit byte ≡ false → (w : List ℕ) (n : ℕ) → decimal w ≡ Is n → has byte w ≡ false
+  pub number_without : is_digit byte ≡ false → (w : List ℕ) (n : ℕ) → decimal w ≡ Some n → has byte w ≡ false
   unfolding decimal
   number_without h w n e =
       ⊎_elim
       (λ (d : all_digits w ≡ true). digits_without w h d)
-      (λ (d : all_digits w ≡ false). let u : decimal w ≡ Unread = rw (d, and-false) in cc)
+      (λ (d : all_digits w ≡ false). let u : decimal w ≡ None = rw (d, and-false) in cc)
       (by_bool (all_digits w))
 
   -- the pieces of a text with the byte, and of one without

@@ -8,9 +8,9 @@ use native.Mathlib.Nat.{pow-suc}
 use native.Mathlib.Omega.{arith}
 use borrow.Author.Tests.{lt-ltb, le-ltb, le-leb}
 use lib.ListN.{length, get_or, length-append, get_or-append}
+use Rattle.std.proofs.Common.{Some}
 use Rattle.decimals.specs.Bytes.{digit_zero, digit_nine}
 use Rattle.decimals.specs.Decimal.{max_digits, max_number, is_digit, all_digits, value_after, value_of, decimal, last_digits, decimal_of}
-use Rattle.decimals.specs.declared.Number.TheVariants.{Is}
 use Rattle.timetable.proofs.Tests.{by_lt, and_left, and_right, and_both}
 
 -- a bound that is large enough makes no difference
@@ -126,7 +126,7 @@ pub digits_ten : (n : ℕ) → n < 2 ^ 32 → length (decimal_of n) ≤ 10
 digits_ten n h = digits_few 9 n (omega arith)
 
 -- a number of 16 bits, written and read, is itself
-pub decimal_read : (n : ℕ) → n ≤ max_number → decimal (decimal_of n) ≡ Is n
+pub decimal_read : (n : ℕ) → n ≤ max_number → decimal (decimal_of n) ≡ Some n
 unfolding decimal
 decimal_read n h =
     let some = le-leb 1 (length (decimal_of n)) (digits_some n) in

@@ -1,36 +1,30 @@
 -- How a word is read as a number, digit by digit. Assumes nothing.
 use mathlib.Core.Path.{◌≡◌}
-use mathlib.Core.Bool.{cond, ◌&&◌, and-false}
-use mathlib.Core.List.{List, [], ◌∷◌}
-use Prim.Native.Nat.{ℕ, suc, ◌+◌, ◌*◌, ◌-◌, ◌<◌, ◌≤◌}
+use mathlib.Core.Bool.{false, true, cond, ◌&&◌}
+use mathlib.Core.List.{List}
+use Prim.Native.Nat.{ℕ, ◌+◌, ◌*◌, ◌-◌, ◌^◌, ◌<◌, ◌≤◌}
+use native.Mathlib.Nat.{pow-suc}
 use native.Mathlib.Numerals.{add-one}
 use native.Mathlib.Omega.{arith}
 use borrow.Author.Tests.{le-leb, lt-leb}
 use lib.Dec.{leb}
 use lib.ListN.{length, get_or, drop, drop_of_length-le}
 use lib.Seq.{drop-cons}
-use Rattle.decimals.specs.Bytes.{digit_zero, digit_nine}
-use Rattle.decimals.specs.Decimal.{max_digits, max_number, all_digits, value_after, decimal}
-use Rattle.decimals.specs.declared.Number.{Number}
-use Rattle.decimals.specs.declared.Number.TheVariants.{Is, Unread}
+use Rattle.std.proofs.Common.{Option, Some, None}
+use Rattle.decimals.specs.Bytes.{digit_zero}
+use Rattle.decimals.specs.Decimal.{max_digits, max_number, is_digit, all_digits, value_after, decimal}
 
 -- the number of a word of which the bytes are left, when those before them had value v
-unfoldable pub decimal_after : ℕ → List ℕ → Number
-decimal_after v bs = cond (all_digits bs && leb (value_after v bs) max_number) (Is (value_after v bs)) Unread
-
--- more digits make no smaller value
-pub value_grows : (v : ℕ) (bs : List ℕ) → v ≤ value_after v bs
-unfolding value_after
-value_grows v [] = omega arith
-value_grows v (b ∷ bs) = omega (arith, value_grows (10 * v + (b - digit_zero)) bs)
+unfoldable pub decimal_after : ℕ → List ℕ → Option ℕ
+decimal_after v bs = cond (all_digits bs && leb (value_after v bs) max_number) (Some (value_after v bs)) None
 
 -- an empty word is no number
-pub decimal_none : (w : List ℕ) → length w < 1 → decimal w ≡ Unread
+pub decimal_none : (w : List ℕ) → length w < 1 → decimal w ≡ None
 unfolding decimal
 decimal_none w h = rw (lt-leb 1 (length w) h)
 
 -- a word of six bytes is no number
-pub decimal_long : (w : List ℕ) → max_digits < length w → decimal w ≡ Unread
+pub decimal_long : (w : List ℕ) → max_digits < length w → decimal w ≡ None
 unfolding decimal
 decimal_long w h = rw (lt-leb (length w) max_digits h, le-leb 1 (length w) (omega arith))
 
@@ -40,31 +34,25 @@ unfolding decimal decimal_after
 decimal_starts w h k = rw (le-leb 1 (length w) h, le-leb (length w) max_digits k)
 
 module _ (w : List ℕ) (i v : ℕ) (h : i < length w) where
-  -- a byte below the digits
-  pub byte_low : get_or w i 0 < digit_zero → decimal_after v (drop i w) ≡ Unread
+  -- a byte that is no digit
+  pub byte_other : is_digit (get_or w i 0) ≡ false → decimal_after v (drop i w) ≡ None
   unfolding decimal_after all_digits
-  byte_low l = rw (drop-cons w i 0 h, lt-leb digit_zero (get_or w i 0) l)
-
-  -- a byte above the digits
-  pub byte_high : digit_nine < get_or w i 0 → decimal_after v (drop i w) ≡ Unread
-  unfolding decimal_after all_digits
-  byte_high l = rw (drop-cons w i 0 h, le-leb digit_zero (get_or w i 0) (omega arith), lt-leb (get_or w i 0) digit_nine l)
-
-  -- a value past the largest number
-  pub value_large : max_number < 10 * v + (get_or w i 0 - digit_zero) → decimal_after v (drop i w) ≡ Unread
-  unfolding decimal_after value_after
-  value_large l =
-      let g : max_number < value_after (10 * v + (get_or w i 0 - digit_zero)) (drop (suc i) w) =
-      omega (arith, value_grows (10 * v + (get_or w i 0 - digit_zero)) (drop (suc i) w)) in
-      rw (drop-cons w i 0 h, lt-leb _ _ g, and-false)
+  byte_other e = rw (drop-cons w i 0 h, e)
 
   -- a digit
-  pub byte_digit : digit_zero ≤ get_or w i 0 → get_or w i 0 ≤ digit_nine
+  pub byte_digit : is_digit (get_or w i 0) ≡ true
       → decimal_after v (drop i w) ≡ decimal_after (10 * v + (get_or w i 0 - digit_zero)) (drop (i + 1) w)
   unfolding decimal_after all_digits value_after
-  byte_digit l g = rw (drop-cons w i 0 h, le-leb digit_zero (get_or w i 0) l, le-leb (get_or w i 0) digit_nine g, add-one i)
+  byte_digit e = rw (drop-cons w i 0 h, e, add-one i)
 
 -- no byte left
-pub decimal_ends : (w : List ℕ) (i v : ℕ) → length w ≤ i → v ≤ max_number → decimal_after v (drop i w) ≡ Is v
+pub decimal_ends : (w : List ℕ) (i v : ℕ) → length w ≤ i → decimal_after v (drop i w) ≡ cond (leb v max_number) (Some v) None
 unfolding decimal_after all_digits value_after
-decimal_ends w i v h l = rw (drop_of_length-le w {i = i} h, le-leb v max_number l)
+decimal_ends w i v h = rw (drop_of_length-le w {i = i} h)
+
+-- a digit more, ten times as many numbers
+pub tenfold : (i : ℕ) → 10 ^ (i + 1) ≡ 10 ^ i * 10
+tenfold i = rw (add-one i, pow-suc)
+
+-- what a loop over a word's bytes goes by
+pub ruleset reading = (decimal_none, decimal_long, decimal_starts, byte_other, byte_digit, decimal_ends, tenfold)

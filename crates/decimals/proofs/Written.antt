@@ -47,3 +47,6 @@ digit_written d at n h =
 pub digits_written : {d e : List ℕ} {at last : ℕ} (n : ℕ) → 10 ≤ n → Written last e d at (decimal_of (n / 10))
     → Written (last + 1) (set e last (digit_zero + n % 10)) d at (decimal_of n)
 digits_written {e = e} {last = last} n h w = rw (decimal_more n h) (then_written w (byte_written e last (digit_zero + n % 10)))
+
+-- what the writing of a number goes by
+pub ruleset writing = (length_one, length_more, digit_written, digits_written)

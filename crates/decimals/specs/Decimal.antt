@@ -1,8 +1,6 @@
 -- Numbers in decimal: how a word is read as one, and how one is written. Texts are lists of bytes. Assumes nothing.
-use Rattle.std.specs.Prelude.{Bool, true, cond, ◌&&◌, List, [], ◌∷◌, ◌++◌, ℕ, zero, suc, ◌+◌, ◌*◌, ◌-◌, ◌/◌, ◌%◌, ltb, leb, length}
+use Rattle.std.specs.Prelude.{Bool, true, cond, Option, Some, None, ◌&&◌, List, [], ◌∷◌, ◌++◌, ℕ, zero, suc, ◌+◌, ◌*◌, ◌-◌, ◌/◌, ◌%◌, ltb, leb, length}
 use Rattle.decimals.specs.Bytes.{digit_zero, digit_nine}
-use Rattle.decimals.specs.declared.Number.{Number}
-use Rattle.decimals.specs.declared.Number.TheVariants.{Is, Unread}
 
 -- how many digits a word may have
 abbrev pub max_digits : ℕ
@@ -31,9 +29,9 @@ abbrev pub value_of : List ℕ → ℕ
 value_of = value_after 0
 
 -- a word as a number: 1 to 5 digits, of value at most 65535; leading zeros are allowed
-unfoldable pub decimal : List ℕ → Number
+unfoldable pub decimal : List ℕ → Option ℕ
 decimal w =
-    cond (leb 1 (length w) && leb (length w) max_digits && all_digits w && leb (value_of w) max_number) (Is (value_of w)) Unread
+    cond (leb 1 (length w) && leb (length w) max_digits && all_digits w && leb (value_of w) max_number) (Some (value_of w)) None
 
 -- the last digits of n, at most as many as the bound, without leading zeros
 unfoldable pub last_digits : ℕ → ℕ → List ℕ

@@ -1,19 +1,18 @@
 -- The walk over the rows: one turn, and that it comes to the primary delays. Assumes nothing.
 use mathlib.Core.Path.{◌≡◌, refl, sym, ◌∙◌, ap}
 use mathlib.Core.Logic.{⊎_elim}
-use mathlib.Core.List.{List, [], ◌∷◌}
-use Prim.Native.Nat.{ℕ, suc, ◌+◌, ◌*◌, ◌-◌, ◌/◌, ◌%◌, ◌<◌, ◌≤◌}
-use native.Mathlib.Nat.{sub-zero}
+use mathlib.Core.List.{List, [], ◌∷◌, ◌++◌}
+use Prim.Native.Nat.{ℕ, suc, ◌+◌, ◌*◌, ◌/◌, ◌%◌, ◌<◌, ◌≤◌}
 use native.Mathlib.Omega.{arith}
-use lib.ListN.{length, get_or, set, drop, replicate, length-replicate, get_or-replicate}
+use lib.ListN.{length, get_or, set, replicate, length-replicate, get_or-replicate}
 use lib.Seq.{get_or-set_same, get_or-set_other}
 use Rattle.model.specs.declared.PrimaryDelay.{PrimaryDelay}
-use Rattle.model.specs.Notices.{Notice, width, cut}
+use Rattle.model.specs.Notices.{width, row_at, cut}
+use Rattle.model.specs.declared.Notice.{Notice}
 use Rattle.model.specs.Times.{no_delay, with_notice, primary_delay}
 use Rattle.model.proofs.ByCases.{by_eq}
-use Rattle.model.proofs.Areas.{row_of, cut_more}
 use Rattle.model.proofs.Primary.{with_other, with_comm, primary_none, primary_more}
-use Rattle.delays.specs.Delays.{number_size, primary_in, primary_after, NoDelays, Tells}
+use Rattle.delays.specs.Delays.{number_size, rows_in, primary_in, primary_after, NoDelays, Tells}
 
 -- a list of zeros holds no delays
 pub zeros_none : (n : ℕ) → NoDelays (replicate n 0)
@@ -39,13 +38,33 @@ module _ (c : ℕ) where
   after_none [] = sym (primary_none c)
   after_none (n ∷ ns) = after_with n ns no_delay ∙ ap (with_notice c n) (after_none ns) ∙ sym (primary_more c n ns)
 
--- what is left of the walk, m rows from the place on, gives for each connection what the whole gives
-abbrev pub Walks : List ℕ → ℕ → ℕ → List ℕ → List Notice → List ℕ → Type 0
-Walks rows at m primaries all primaries₀ =
-    (c : ℕ) → c < length primaries₀ → primary_after c (cut m (drop at rows)) (primary_in (get_or primaries c 0)) ≡ primary_after c all (primary_in (get_or primaries₀ c 0))
+-- a row at the front of a list of numbers
+rows_first : (row left : List ℕ) → length row ≡ width → rows_in (row ++ left) ≡ row_at row ∷ rows_in left
+unfolding cut
+rows_first [] left h = absurd (omega arith)
+rows_first (a ∷ []) left h = absurd (omega arith)
+rows_first (a ∷ b ∷ []) left h = absurd (omega arith)
+rows_first (a ∷ b ∷ d ∷ []) left h =
+    let n : length (a ∷ b ∷ d ∷ left) / width ≡ suc (length left / width) = omega arith in
+    rw n
+rows_first (a ∷ b ∷ d ∷ e ∷ row) left h = absurd (omega arith)
 
-pub walk_start : (rows primaries : List ℕ) (n : ℕ) → Walks rows 0 (n - 0) primaries (cut n rows) primaries
-walk_start rows primaries n c h = rw sub-zero
+-- fewer numbers than a row has
+rows_none : (left : List ℕ) → length left < width → rows_in left ≡ []
+unfolding cut
+rows_none left h =
+    let n : length left / width ≡ 0 = omega arith in
+    rw n
+
+-- the rows that are left make of each of n connections' primary delay so far that by all rows
+abbrev pub Walks : List ℕ → List ℕ → List ℕ → ℕ → Type 0
+Walks rows left primaries n =
+    (c : ℕ) → c < n → primary_after c (rows_in left) (primary_in (get_or primaries c 0)) ≡ primary_delay c (rows_in rows)
+
+pub walk_start : (rows primaries : List ℕ) → NoDelays primaries → Walks rows rows primaries (length primaries)
+walk_start rows primaries none c h =
+    let o : get_or primaries c 0 ≡ 0 = ap (λ (l : List ℕ). get_or l c 0) none ∙ get_or-replicate {A = ℕ} (length primaries) c 0 0 h in
+    rw o (after_none c (rows_in rows))
 
 -- the primary delays after a row: of its connection that with the row, of the others those before
 abbrev pub Turned : Notice → List ℕ → List ℕ → ℕ → Type 0
@@ -66,25 +85,15 @@ turn_set n primaries x h e c =
 pub turn_past : (n : Notice) (primaries : List ℕ) → length primaries ≤ n.connection → (c : ℕ) → c < length primaries → Turned n primaries primaries c
 turn_past n primaries h c l = sym (with_other c n (primary_in (get_or primaries c 0)) (λ (q : n.connection ≡ c). omega arith))
 
-pub walk_turn : (all : List Notice) (primaries₀ rows primaries primaries' : List ℕ) (n k : ℕ) → k < n
-    → Walks rows (width * k) (n - k) primaries all primaries₀
-    → ((c : ℕ) → c < length primaries₀ → Turned (row_of rows (width * k)) primaries primaries' c)
-    → Walks rows (width * (k + 1)) (n - (k + 1)) primaries' all primaries₀
+pub walk_turn : (rows left row next primaries primaries' : List ℕ) (n : ℕ) → left ≡ row ++ next → length row ≡ width
+    → Walks rows left primaries n → ((c : ℕ) → c < n → Turned (row_at row) primaries primaries' c) → Walks rows next primaries' n
 unfolding primary_after
-walk_turn all primaries₀ rows primaries primaries' n k h w t c l =
-    let d : width * (k + 1) ≡ width * k + width = omega arith in
-    let m : n - k ≡ suc (n - (k + 1)) = omega arith in
-    rw (d, t c l) (rw (m, cut_more) at (w c l))
+walk_turn rows left row next primaries primaries' n e h w t c l =
+    rw (t c l) (rw (e, rows_first row next h) at (w c l))
 
--- at the end from no delays: the primary delays
-pub walk_end : (all : List Notice) (primaries₀ rows primaries : List ℕ) (n k : ℕ) → k ≡ n → length primaries ≡ length primaries₀ → NoDelays primaries₀
-    → Walks rows (width * k) (n - k) primaries all primaries₀ → Tells all primaries (length primaries₀)
-unfolding cut primary_after
-walk_end all primaries₀ rows primaries n k e long none w =
-    record {
-      room = long;
-      tells = λ c h.
-          let z : n - k ≡ 0 = omega arith in
-          let o : get_or primaries₀ c 0 ≡ 0 = ap (λ (l : List ℕ). get_or l c 0) none ∙ get_or-replicate {A = ℕ} (length primaries₀) c 0 0 h in
-          (rw (z, o) at (w c h)) ∙ after_none c all;
-    }
+-- at the end: the primary delays
+pub walk_end : (rows left primaries : List ℕ) (n : ℕ) → length left < width → length primaries ≡ n → Walks rows left primaries n
+    → Tells (rows_in rows) primaries n
+unfolding primary_after
+walk_end rows left primaries n e long w =
+    record { room = long; tells = λ c h. rw (rows_none left e) at (w c h) }

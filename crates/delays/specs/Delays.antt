@@ -1,7 +1,8 @@
 -- The rows in a list of numbers, a primary delay in one number, and the walk over rows. Assumes nothing.
 use Rattle.std.specs.Prelude.{◌≡◌, List, [], ◌∷◌, ℕ, ◌/◌, ◌%◌, ◌<◌, length, get_or, replicate}
 use Rattle.model.specs.declared.PrimaryDelay.{PrimaryDelay}
-use Rattle.model.specs.Notices.{Notice, width, cut}
+use Rattle.model.specs.Notices.{width, cut}
+use Rattle.model.specs.declared.Notice.{Notice}
 use Rattle.model.specs.Times.{with_notice, primary_delay}
 
 -- all rows of a list of numbers

@@ -5,6 +5,7 @@ use mathlib.Core.List.{List, [], ◌++◌, map, map-append, append-nil, append_a
 use Prim.Native.Nat.{ℕ, ◌<◌}
 use lib.ListN.{length, take, drop, take-append-drop}
 use lib.Seq.{take_at}
+use Rattle.std.proofs.Common.{Option}
 use Rattle.model.specs.Day.{Day}
 use Rattle.commands.specs.Commands.{command_of}
 use Rattle.meanings.specs.declared.Command.{Command}
@@ -70,7 +71,7 @@ writes_said {more = more} (works {p = p} {out = out} further h w e) =
 writes_said {day = day} {s = s} {block = block} (reads bytes later h w e) =
     let f : commands_of (take held_room block ++ bytes ++ later) ≡ commands_of (block ++ (bytes ++ later)) =
     ap commands_of (append_assoc (take held_room block) bytes later) ∙ held_same block (bytes ++ later) h in
-    rw e (writes_said w ∙ ap (λ (ks : List Command). (talk day s ks).text) f)
+    rw e (writes_said w ∙ ap (λ (ks : List (Option Command)). (talk day s ks).text) f)
 writes_said {day = day} {s = s} {block = block} (refuses h some e f) =
     f ∙ rw (e, append-nil block, last_line block h some, append-nil (text_of (turn_of day s (command_of block)).line))
 writes_said (ends e f g) = rw (e, f, g)

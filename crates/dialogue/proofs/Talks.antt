@@ -5,6 +5,7 @@ use Prim.Native.Nat.{ℕ, ◌+◌, ◌-◌, ◌<◌, ◌≤◌}
 use native.Mathlib.Omega.{arith}
 use lib.ListN.{length, take, drop, drop_of_length-le, length-append, length-take, length-drop}
 use lib.Seq.{take_all, take_at, drop-append-add, drop-drop}
+use Rattle.std.proofs.Common.{Option}
 use Rattle.model.specs.Day.{Day}
 use Rattle.commands.specs.Commands.{command_of}
 use Rattle.meanings.specs.declared.Command.{Command}
@@ -17,10 +18,6 @@ use Rattle.turns.specs.Worked.{Worked}
 use Rattle.dialogue.specs.Talks.{talked, talk}
 use Rattle.dialogue.specs.Inner.{Added}
 use Rattle.dialogue.specs.Worked.{Talked}
-
--- an area keeps its length
-abbrev pub SameLength : List ℕ → List ℕ → Type 0
-SameLength before after = length after ≡ length before
 
 -- an area from a place on
 pub rest_part : (out : List ℕ) (at : ℕ) → take (length out - at) (drop at out) ≡ drop at out
@@ -46,7 +43,7 @@ worked_added {n} {at} {part} {out₀} {after} {t} h w =
     }
 
 -- commands and further ones
-pub talk_append : (day : Day) (s : State) (ks ls : List Command)
+pub talk_append : (day : Day) (s : State) (ks ls : List (Option Command))
     → talk day s (ks ++ ls)
     ≡ talked ((talk day s ks).text ++ (talk day (talk day s ks).after ls).text) (talk day (talk day s ks).after ls).after
 unfolding talk
@@ -57,7 +54,7 @@ talk_append day s (k ∷ ks) ls =
     rw (talk_append day t.after ks ls, append_assoc (text_of t.line) w.text (talk day w.after ls).text)
 
 -- one command more
-talk_last : (day : Day) (s : State) (ks : List Command) (k : Command)
+talk_last : (day : Day) (s : State) (ks : List (Option Command)) (k : Option Command)
     → talk day s (ks ++ (k ∷ []))
     ≡ talked ((talk day s ks).text ++ text_of (turn_of day (talk day s ks).after k).line) (turn_of day (talk day s ks).after k).after
 unfolding talk

@@ -1,5 +1,5 @@
 -- The dialogue: what the desk says to commands, one after the other. Assumes nothing.
-use Rattle.std.specs.Prelude.{List, [], ◌∷◌, ◌++◌, ℕ}
+use Rattle.std.specs.Prelude.{List, [], ◌∷◌, ◌++◌, ℕ, Option}
 use Rattle.model.specs.Day.{Day}
 use Rattle.meanings.specs.declared.Command.{Command}
 use Rattle.lines.specs.Lines.{text_of}
@@ -14,7 +14,7 @@ abbrev pub talked : List ℕ → State → Talk
 talked text after = record { text = text; after = after }
 
 -- the dialogue of commands, one after the other
-unfoldable pub talk : Day → State → List Command → Talk
+unfoldable pub talk : Day → State → List (Option Command) → Talk
 talk day s [] = talked [] s
 talk day s (k ∷ ks) =
     let t = turn_of day s k in

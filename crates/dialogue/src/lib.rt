@@ -14,7 +14,8 @@ ghost use Rattle.dialogue.specs.Worked.{Progressed};
 pub const ANSWER_ROOM: usize = arrivals::EMPTY_JOURNEY_ROOM
     + arrivals::CONNECTION_ROOM * timetable::MAX_CONNECTIONS;
 
-// How far a block is worked, how many bytes the answers have, and whether there is no room for another.
+// How far a block is worked, how many bytes the answers have, and whether there is no room for another: both numbers stand in either case,
+// so that a Result or an Option would be no plainer.
 #[derive(Clone, Copy)]
 pub struct Progress {
     pub at: usize,
@@ -63,15 +64,7 @@ pub fn work_block(
 {
     let mut at = 0;
     let mut size = 0;
-    loop {
-        let end = input::whole_end(block, at);
-        if end <= at {
-            return Progress {
-                at,
-                size,
-                full: false,
-            };
-        }
+    while let Some(end) = input::whole_end(block, at) {
         if out.len() - size < ANSWER_ROOM {
             return Progress {
                 at,
@@ -90,5 +83,10 @@ pub fn work_block(
             &block[at..end],
         );
         at = end;
+    }
+    Progress {
+        at,
+        size,
+        full: false,
     }
 }

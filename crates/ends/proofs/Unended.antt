@@ -9,7 +9,7 @@ use Rattle.input.specs.Lines.{plain}
 use Rattle.input.proofs.Holding.{open_unreadable}
 use Rattle.lines.specs.Lines.{refusal, text_of}
 use Rattle.labels.specs.Room.{LineIs}
-use Rattle.replies.specs.Replies.{unreadable}
+use Rattle.refusals.specs.RefusalNumber.{unreadable}
 use Rattle.turns.specs.Turns.{State, turn_of}
 use Rattle.turns.specs.Worked.{Worked}
 

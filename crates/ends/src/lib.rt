@@ -11,7 +11,14 @@ ghost use Rattle.turns.specs.Turns.{State, turn_of};
 ghost use Rattle.turns.specs.Worked.{Worked};
 ghost use Rattle.ends.specs.Built.{Built};
 
-use written_replies::Begun;
+use refusals::{Reason, Refusal};
+
+// The length of a building's line, which a refusal has too, and whether the timetable is accepted: a Result would hold the length twice.
+#[derive(Clone, Copy, Debug, PartialEq, Eq)]
+pub struct Begun {
+    pub size: usize,
+    pub accepted: bool,
+}
 
 // Builds; the answer's line stands at the front of out.
 pub fn begin(file: &[u8], notices: &mut [u16], graph: &mut [u16], out: &mut [u8]) -> Begun
@@ -19,8 +26,11 @@ pub fn begin(file: &[u8], notices: &mut [u16], graph: &mut [u16], out: &mut [u8]
     ensures { Built result out.new out.old (lent notices.new graph.new)
         (built (day_of file.now) (lent notices.old graph.old)) }
 {
-    let checked = graph::build(file, notices, graph);
-    written_replies::write_built(checked, out)
+    let built = graph::build(file, notices, graph);
+    Begun {
+        size: written_replies::write_built(built, out),
+        accepted: built.is_ok(),
+    }
 }
 
 // Works a line that no newline ends, whatever it holds and whatever the desk has; the length of the answer, which stands at the front of
@@ -30,5 +40,5 @@ pub fn work_unended(out: &mut [u8]) -> usize
     ensures { (day : Day) (s : State) (line : List ℕ) → plain line ≡ true
         → Worked result out.new out.old s (turn_of day s (command_of line)) }
 {
-    lines::write_refusal(turns::UNREADABLE, 0, out)
+    written_replies::write_refusal(Refusal(Reason::Unreadable, 0), out)
 }

@@ -2,10 +2,11 @@
 use mathlib.Core.Path.{◌≡◌, ap, sym, ◌∙◌}
 use mathlib.Core.List.{List}
 use Prim.Native.Nat.{ℕ}
-use Rattle.timetable.specs.Answers.{Answer, accepted}
-use Rattle.timetable.specs.Check.{Counts}
+use Rattle.refusals.specs.Answers.{Answer, accepted}
+use Rattle.timetable.specs.declared.Counts.{Counts}
 use Rattle.model.specs.Day.{Day, Areas}
-use Rattle.model.specs.Operations.{built, Arrival, Enquiry, enquiry}
+use Rattle.model.specs.Operations.{built, Enquiry, enquiry}
+use Rattle.model.specs.declared.Arrival.{Arrival}
 use Rattle.model.specs.Runs.{register_of}
 use Rattle.model.proofs.Runs.{building_is, run_built, network_kept}
 use Rattle.search.specs.Answered.{Answered}

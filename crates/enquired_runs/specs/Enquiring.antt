@@ -1,9 +1,9 @@
 -- What a whole run and an enquiry after it promise. Assumes nothing.
 use Rattle.std.specs.Prelude.{◌≡◌, true, List, ℕ, ◌≤◌, length}
-use Rattle.timetable.specs.Answers.{Answer, accepted, refused}
+use Rattle.refusals.specs.Answers.{Answer, accepted, refused}
 use Rattle.timetable.specs.File.{connections}
-use Rattle.timetable.specs.Check.{Counts}
-use Rattle.model.specs.Notices.{Notice}
+use Rattle.timetable.specs.declared.Counts.{Counts}
+use Rattle.model.specs.declared.Notice.{Notice}
 use Rattle.model.specs.Times.{network_of}
 use Rattle.model.specs.Day.{Day, Areas}
 use Rattle.model.specs.Operations.{Enquiry}

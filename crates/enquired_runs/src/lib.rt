@@ -1,20 +1,20 @@
 // A whole run, and then an enquiry.
 #![tactic(auto)]
 
-ghost use Rattle.timetable.specs.Check.{told_counts};
+ghost use Rattle.refusals.specs.Answers.{told};
 ghost use Rattle.model.specs.Day.{day_of, lent};
 ghost use Rattle.model.specs.Operations.{enquiry};
-ghost use Rattle.journeys.specs.Reading.{told_arrival};
 ghost use Rattle.enquired_runs.specs.Enquiring.{Enquiring};
 
-use journeys::Enquired;
-use timetable::Checked;
+use model::Arrival;
+use refusals::Refusal;
+use timetable::Counts;
 
 // The answers of a building, and of an enquiry after the run.
 #[derive(Clone, Copy)]
 pub struct Told {
-    pub building: Checked,
-    pub enquiry: Enquired,
+    pub building: Result<Counts, Refusal>,
+    pub enquiry: Result<Arrival, Refusal>,
 }
 
 // A whole run, and then an enquiry by the library's own `enquire` on both areas as the run left them; also where the building is
@@ -33,10 +33,10 @@ pub fn run_and_enquire(
 ) -> Told
     ensures { Enquiring (day_of file.now) (lent notices.old graph.old)
         calls.now answers.old work.old journey.old from to time
-        (told_counts result.building)
+        (told result.building)
         (lent notices.new graph.new)
         answers.new
-        (enquiry (told_arrival result.enquiry) work.new journey.new) }
+        (enquiry (told result.enquiry) work.new journey.new) }
 {
     let building = runs::run(file, notices, graph, calls, answers);
     let enquiry = search::enquire(file, notices, graph, work, journey, from, to, time);

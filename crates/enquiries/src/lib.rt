@@ -5,7 +5,7 @@ ghost use Rattle.numbers.specs.Numbers.{numbers_of};
 ghost use Rattle.model.specs.Day.{day_of};
 ghost use Rattle.model.specs.Operations.{enquired};
 ghost use Rattle.fronts.specs.Fronts.{lent_bytes};
-ghost use Rattle.front_enquiries.specs.Enquired.{EnquiryBytes};
+ghost use Rattle.enquiries.specs.Enquired.{EnquiryBytes};
 
 // An enquiry on bytes.
 pub fn enquire_bytes(
@@ -27,22 +27,9 @@ pub fn enquire_bytes(
     let mut g = [0u16; model::MOST_GRAPH];
     let mut w = [0u16; timetable::MAX_CONNECTIONS];
     let mut j = [0u16; timetable::MAX_CONNECTIONS];
-    let k = fronts::front_length(model::NOTICES_LENGTH, notices.len());
-    let m = fronts::front_length(model::MOST_GRAPH, graph.len());
-    let u = fronts::front_length(timetable::MAX_CONNECTIONS, work.len());
-    let v = fronts::front_length(timetable::MAX_CONNECTIONS, journey.len());
-    front_enquiries::enquire_fronts(
-        file,
-        notices,
-        graph,
-        work,
-        journey,
-        &mut n[0..k],
-        &mut g[0..m],
-        &mut w[0..u],
-        &mut j[0..v],
-        from,
-        to,
-        time,
-    )
+    let (n, g) = fronts::read_both(notices, graph, &mut n, &mut g);
+    let (w, j) = fronts::read_both(work, journey, &mut w, &mut j);
+    let answer = search::enquire(file, n, g, w, j, from, to, time);
+    written_enquiries::write_found(file, w, j, work, journey, answer);
+    codes::code(answer)
 }

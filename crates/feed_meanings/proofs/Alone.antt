@@ -9,12 +9,10 @@ use native.Mathlib.Omega.{arith}
 use borrow.Author.Tests.{ltb-true, lt-ltb, eqb-true, eq-eqb, not-false}
 use lib.Dec.{ltb, leb-suc-suc}
 use lib.ListN.{length}
-use Rattle.timetable.specs.Answers.{refuse_if, or_else, first_below}
-use Rattle.timetable.specs.declared.Verdict.{Verdict}
-use Rattle.timetable.specs.declared.Verdict.TheVariants.{Passed, Refused}
+use Rattle.refusals.specs.Answers.{refuse_if, or_else, first_below, Verdict, Passed, Refused}
 use Rattle.timetable.proofs.Tests.{Faults, by_lt, by_eq, by_bool, not_both, or_cases, or_left, or_right, and_left, and_right, and_both}
 use Rattle.timetable.proofs.Order.{passed_not_refused, or_passed, else_assoc, Rule, rule, below_passed, below_refused}
-use Rattle.gtfs.specs.RefusalNumber as refusal
+use Rattle.refusals.specs.RefusalNumber as refusal
 use Rattle.gtfs.specs.Feed.{same_trip, alone_verdict}
 use Rattle.gtfs.specs.declared.StopTime.{StopTime}
 use Rattle.feed_meanings.specs.Texts.{row_at, InOrder, Alone}
@@ -44,7 +42,7 @@ abbrev beside : Bool → List StopTime → ℕ → Bool
 beside joined rows k = joined_at joined rows k || goes_on_at rows k
 
 abbrev alone_at : ℕ → Bool → List StopTime → ℕ → Verdict
-alone_at k joined rows j = refuse_if (not (beside joined rows j)) refusal.wrong_row (k + j)
+alone_at k joined rows j = refuse_if (not (beside joined rows j)) refusal.wrong_text_row (k + j)
 
 -- a row further on
 beside_next : (joined : Bool) (row next : StopTime) (rows : List StopTime) (j : ℕ)
@@ -60,7 +58,7 @@ alone_next k joined row next rows j =
 
 -- the first row
 alone_here : (k : ℕ) (joined : Bool) (row next : StopTime) (rows : List StopTime)
-    → refuse_if (not (joined || same_trip row next)) refusal.wrong_row k ≡ alone_at k joined (row ∷ next ∷ rows) 0
+    → refuse_if (not (joined || same_trip row next)) refusal.wrong_text_row k ≡ alone_at k joined (row ∷ next ∷ rows) 0
 alone_here k joined row next rows = rw (add-zero k, lt-ltb 1 (suc (suc (length rows))) (omega arith))
 
 -- the verdict is the first refusal of a row
@@ -128,11 +126,11 @@ module _ (rows : List StopTime) (o : InOrder rows) where
   )
 
   -- a row's verdict
-  at_row : (k : ℕ) → k < length rows → Rule (alone_at 1 false rows k) refusal.wrong_row (1 + k) (Alone rows k → ⊥)
-  at_row k l = rule (not (beside false rows k)) refusal.wrong_row (1 + k) (beside_iff k l)
+  at_row : (k : ℕ) → k < length rows → Rule (alone_at 1 false rows k) refusal.wrong_text_row (1 + k) (Alone rows k → ⊥)
+  at_row k l = rule (not (beside false rows k)) refusal.wrong_text_row (1 + k) (beside_iff k l)
 
   refused_at : {n p : ℕ} (k : ℕ) → k < length rows → alone_at 1 false rows k ≡ Refused n p
-      → (n ≡ refusal.wrong_row) × (p ≡ suc k) × Alone rows k
+      → (n ≡ refusal.wrong_text_row) × (p ≡ suc k) × Alone rows k
   refused_at k l r =
       ⊎_elim
       (λ b. absurd (passed_not_refused ((at_row k l).holds (not_alone k l b)) r))
@@ -149,7 +147,7 @@ module _ (rows : List StopTime) (o : InOrder rows) where
 
   -- the first that is
   pub alone_refused : (n p : ℕ) → (alone_verdict 1 false rows ≡ Refused n p)
-      ↔ ((k : ℕ) × (k < length rows) × (n ≡ refusal.wrong_row) × (p ≡ suc k) × Alone rows k × ((j : ℕ) → j < k → Alone rows j → ⊥))
+      ↔ ((k : ℕ) × (k < length rows) × (n ≡ refusal.wrong_text_row) × (p ≡ suc k) × Alone rows k × ((j : ℕ) → j < k → Alone rows j → ⊥))
   alone_refused n p =
       let below = below_refused (alone_at 1 false rows) (length rows) n p in (
         λ h.

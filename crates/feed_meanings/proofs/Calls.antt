@@ -6,15 +6,13 @@ use Prim.Native.Nat.{ℕ, ◌≤◌}
 use native.Mathlib.Omega.{arith}
 use lib.Dec.{ltb}
 use lib.ListN.{length}
-use Rattle.timetable.specs.Answers.{refused, or_else, answering}
+use Rattle.refusals.specs.Answers.{refused, or_else, answering, Verdict, Passed, Refused}
 use Rattle.timetable.specs.Check.{file_verdict}
-use Rattle.timetable.specs.declared.Verdict.{Verdict}
-use Rattle.timetable.specs.declared.Verdict.TheVariants.{Passed, Refused}
 use Rattle.timetable.proofs.Tests.{below}
 use Rattle.timetable.proofs.Order.{else_refused, Rule, rule, found}
 use Rattle.timetable.proofs.Accepted.{accepted_iff}
 use Rattle.timetable.proofs.Refusals.{refused_iff}
-use Rattle.gtfs.specs.RefusalNumber as refusal
+use Rattle.refusals.specs.RefusalNumber as refusal
 use Rattle.gtfs.specs.Rows.{text_of}
 use Rattle.gtfs.specs.Conversions.{room_verdict, converted, imported_file, import_verdict, imported, exported}
 use Rattle.feed_meanings.specs.Calls.{CallRefusal, wrong_input, short_output_lem, ImportRefusal, ExportRefusal}

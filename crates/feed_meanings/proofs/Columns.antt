@@ -6,16 +6,14 @@ use mathlib.Core.List.{List, [], ◌∷◌, ◌++◌}
 use Prim.Native.Nat.{ℕ}
 use native.Mathlib.Omega.{arith}
 use lib.Dec.{eqb}
+use Rattle.std.proofs.Common.{Option, Some, None, is_some}
 use Rattle.decimals.specs.Bytes.{digit_zero}
 use Rattle.decimals.specs.Decimal.{is_digit, all_digits, decimal}
-use Rattle.decimals.specs.declared.Number.{Number}
-use Rattle.decimals.specs.declared.Number.TheVariants.{Is, Unread}
 use Rattle.timetable.proofs.Tests.{by_bool, not_both}
 use Rattle.cuts.specs.Cut.{has, before, after}
 use Rattle.gtfs.specs.Clock.{colon, time_of}
-use Rattle.gtfs.specs.StopTimes.{comma, is_read, number_in, row_from, row_of}
+use Rattle.gtfs.specs.StopTimes.{comma, number_in, row_from, row_of}
 use Rattle.gtfs.specs.declared.StopTime.{StopTime}
-use Rattle.gtfs.specs.declared.Row.TheVariants.{Reads, Unreadable}
 use Rattle.cuts.proofs.Cut.{cut_whole, after_none, before_end, after_end, has_append, digits_without}
 use Rattle.feed_meanings.specs.Words.{IsDecimal, IsTime, IsRow}
 use Rattle.feed_meanings.proofs.Words.{both, digits, is_digit_lem, decimal_iff, time_iff}
@@ -54,37 +52,37 @@ module _ (byte : ℕ) where
           (next _ _ (time_without r.departure) (next _ _ (decimal_without r.stop) (decimal_without r.sequence)))))
 
 -- the number of a word that is read
-number_is : (m : Number) → is_read m ≡ true → m ≡ Is (number_in m)
-number_is (Is n) h = refl
-number_is Unread h = absurd (not_both h refl)
+number_is : (m : Option ℕ) → is_some m ≡ true → m ≡ Some (number_in m)
+number_is (Some n) h = refl
+number_is None h = absurd (not_both h refl)
 
 -- a row is read where a test passes alone
-reads_row : (b : Bool) (r row : StopTime) → cond b (Reads r) Unreadable ≡ Reads row → (b ≡ true) × (r ≡ row)
+reads_row : (b : Bool) (r row : StopTime) → cond b (Some r) None ≡ Some row → (b ≡ true) × (r ≡ row)
 reads_row true r row h = (refl, (cc))
 reads_row false r row h = absurd (let z : ◌≡◌ {A = ℕ} 0 1 = cc in omega arith)
 
 -- each column of a row is read
-columns_read : (a b c d e : Number) (row : StopTime) → row_from a b c d e ≡ Reads row
-    → (a ≡ Is row.trip) × (b ≡ Is row.arrival) × (c ≡ Is row.departure) × (d ≡ Is row.stop) × (e ≡ Is row.sequence)
+columns_read : (a b c d e : Option ℕ) (row : StopTime) → row_from a b c d e ≡ Some row
+    → (a ≡ Some row.trip) × (b ≡ Some row.arrival) × (c ≡ Some row.departure) × (d ≡ Some row.stop) × (e ≡ Some row.sequence)
 columns_read a b c d e row h =
     let r = reads_row _ _ row h in
-    let h3 = both (is_read a && is_read b && is_read c && is_read d) (is_read e) r.0 in
-    let h2 = both (is_read a && is_read b && is_read c) (is_read d) h3.0 in
-    let h1 = both (is_read a && is_read b) (is_read c) h2.0 in
-    let h0 = both (is_read a) (is_read b) h1.0 in (
-      number_is a h0.0 ∙ ap (λ (x : StopTime). Is x.trip) r.1,
-      number_is b h0.1 ∙ ap (λ (x : StopTime). Is x.arrival) r.1,
-      number_is c h1.1 ∙ ap (λ (x : StopTime). Is x.departure) r.1,
-      number_is d h2.1 ∙ ap (λ (x : StopTime). Is x.stop) r.1,
-      number_is e h3.1 ∙ ap (λ (x : StopTime). Is x.sequence) r.1,
+    let h3 = both (is_some a && is_some b && is_some c && is_some d) (is_some e) r.0 in
+    let h2 = both (is_some a && is_some b && is_some c) (is_some d) h3.0 in
+    let h1 = both (is_some a && is_some b) (is_some c) h2.0 in
+    let h0 = both (is_some a) (is_some b) h1.0 in (
+      number_is a h0.0 ∙ ap (λ (x : StopTime). Some x.trip) r.1,
+      number_is b h0.1 ∙ ap (λ (x : StopTime). Some x.arrival) r.1,
+      number_is c h1.1 ∙ ap (λ (x : StopTime). Some x.departure) r.1,
+      number_is d h2.1 ∙ ap (λ (x : StopTime). Some x.stop) r.1,
+      number_is e h3.1 ∙ ap (λ (x : StopTime). Some x.sequence) r.1,
     )
 
 -- an empty word is neither a number nor a time
-no_decimal : {n : ℕ} → decimal [] ≡ Is n → ⊥
+no_decimal : {n : ℕ} → decimal [] ≡ Some n → ⊥
 unfolding decimal
 no_decimal h = let z : ◌≡◌ {A = ℕ} 0 1 = cc in omega arith
 
-no_time : {t : ℕ} → time_of [] ≡ Is t → ⊥
+no_time : {t : ℕ} → time_of [] ≡ Some t → ⊥
 unfolding time_of
 no_time h = let z : ◌≡◌ {A = ℕ} 0 1 = cc in omega arith
 
@@ -97,7 +95,7 @@ after_comma : (w : List ℕ) {s t : List ℕ} → s ≡ t → w ++ (comma ∷ s)
 after_comma w e = ap (λ (l : List ℕ). w ++ (comma ∷ l)) e
 
 -- a line that is read has the columns of a row
-row_is : (line : List ℕ) (row : StopTime) → row_of line ≡ Reads row → IsRow line row
+row_is : (line : List ℕ) (row : StopTime) → row_of line ≡ Some row → IsRow line row
 unfolding row_of before
 row_is line row h =
     let line1 = after comma line in
@@ -128,7 +126,7 @@ row_is line row h =
     }
 
 -- and a line with the columns of a row is read
-row_read : (line : List ℕ) (row : StopTime) → IsRow line row → row_of line ≡ Reads row
+row_read : (line : List ℕ) (row : StopTime) → IsRow line row → row_of line ≡ Some row
 unfolding row_of
 row_read line row r =
     let n0 = decimal_without comma refl r.trip in
@@ -153,5 +151,5 @@ row_read line row r =
     )
 
 -- a line is read as a row exactly if it is one
-pub row_iff : (line : List ℕ) (row : StopTime) → (row_of line ≡ Reads row) ↔ IsRow line row
+pub row_iff : (line : List ℕ) (row : StopTime) → (row_of line ≡ Some row) ↔ IsRow line row
 row_iff line row = (row_is line row, row_read line row)

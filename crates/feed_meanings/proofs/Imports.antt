@@ -9,15 +9,14 @@ use native.Mathlib.Omega.{arith}
 use borrow.Author.Tests.{leb-true, le-leb, eqb-true, eq-eqb}
 use lib.Dec.{leb, ltb}
 use lib.ListN.{length}
+use Rattle.refusals.specs.RefusalNumber as refusal
 use Rattle.numbers.specs.Numbers.{numbers_of}
-use Rattle.timetable.specs.Answers.{refuse_if}
+use Rattle.refusals.specs.Answers.{refuse_if, Passed, Refused}
 use Rattle.timetable.specs.File.{stops, connections, from, to, stays_aboard}
-use Rattle.timetable.specs.RefusalNumber as timetable
 use Rattle.timetable.specs.Check.{stop_verdict, connection_verdict, file_verdict}
 use Rattle.timetable.specs.Accepted.{Timetable}
 use Rattle.timetable.specs.Refusals.{Past3, Past5, Past6, Past7, GoodStops, GoodTrip, GoodTimes, GoodJoin, StopPasses, ConnectionPasses, Reaches, FileRefusal}
 use Rattle.timetable.specs.Refusals as file
-use Rattle.timetable.specs.declared.Verdict.TheVariants.{Passed, Refused}
 use Rattle.timetable.proofs.Tests.{Faults, negated, below, in_words, and_both}
 use Rattle.timetable.proofs.Order.{or_passed, else_passed, else_refused, Rule, rule, passes, found, refuses, pass, stop, below_passed}
 use Rattle.timetable.proofs.Rules.{rule7, header_passes, connection_passes}
@@ -56,11 +55,11 @@ module _ (text change : List ℕ) where
   abbrev stop_test : Bool
   stop_test = not (leb 1 (length ts) && leb (length ts) 500)
 
-  rule4 : Rule (refuse_if stop_test timetable.wrong_stop_count 0) timetable.wrong_stop_count 0 (SomeStops change)
-  rule4 = rule stop_test timetable.wrong_stop_count 0 (some_stops change)
+  rule4 : Rule (refuse_if stop_test refusal.wrong_stop_count 0) refusal.wrong_stop_count 0 (SomeStops change)
+  rule4 = rule stop_test refusal.wrong_stop_count 0 (some_stops change)
 
-  rule5 : Rule (refuse_if (ltb 2000 (length cs)) timetable.wrong_connection_count 0) timetable.wrong_connection_count 0 (length cs ≤ 2000)
-  rule5 = rule (ltb 2000 (length cs)) timetable.wrong_connection_count 0 (below 2000 (length cs))
+  rule5 : Rule (refuse_if (ltb 2000 (length cs)) refusal.wrong_connection_count 0) refusal.wrong_connection_count 0 (length cs ≤ 2000)
+  rule5 = rule (ltb 2000 (length cs)) refusal.wrong_connection_count 0 (below 2000 (length cs))
 
   counts_passed : (counts_verdict (length ts) (length cs) ≡ Passed) ↔ (SomeStops change × (length cs ≤ 2000))
   counts_passed = (

@@ -9,17 +9,16 @@ use native.Mathlib.Omega.{arith}
 use borrow.Author.Tests.{ne_eqb}
 use lib.ListN.{length, length-append}
 use lib.Seq.{drop-append_seam}
+use Rattle.std.proofs.Common.{Option, Some, None, is_some}
 use Rattle.decimals.specs.Bytes.{newline}
-use Rattle.timetable.specs.declared.Verdict.TheVariants.{Passed, Refused}
+use Rattle.refusals.specs.Answers.{Passed, Refused}
 use Rattle.timetable.proofs.Tests.{by_bool, not_both}
 use Rattle.timetable.proofs.Order.{passed_not_refused}
 use Rattle.cuts.specs.Cut.{has, before, after, starts_with, lines_of}
-use Rattle.gtfs.specs.StopTimes.{header_text, row_of, is_row, row_in}
-use Rattle.gtfs.specs.RefusalNumber as refusal
+use Rattle.gtfs.specs.StopTimes.{header_text, row_of, row_in}
+use Rattle.refusals.specs.RefusalNumber as refusal
 use Rattle.gtfs.specs.Feed.{may_follow, lines_verdict, rows_in, alone_verdict, body_of, rows_of, text_verdict}
 use Rattle.gtfs.specs.declared.StopTime.{StopTime}
-use Rattle.gtfs.specs.declared.Row.{Row}
-use Rattle.gtfs.specs.declared.Row.TheVariants.{Reads, Unreadable}
 use Rattle.cuts.proofs.Cut.{cut_whole, before_end, after_end, has_cut, lines_last, starts_append, starts_with_lem}
 use Rattle.gtfs.proofs.Lines.{first_judged, first_row}
 use Rattle.gtfs.proofs.RowsRead.{Follow}
@@ -89,20 +88,20 @@ pub record Next (trips sequence : ℕ) (rest : List ℕ) : Type 0 where
   pub may : may_follow trips sequence row ≡ true
 
 -- the row of a line that is one
-row_from : (row : Row) → is_row row ≡ true → row ≡ Reads (row_in row)
-row_from (Reads row) h = refl
-row_from Unreadable h = absurd (not_both h refl)
+row_from : (row : Option StopTime) → is_some row ≡ true → row ≡ Some (row_in row)
+row_from (Some row) h = refl
+row_from None h = absurd (not_both h refl)
 
 -- whether a line is a row that may come next
 abbrev next_test : ℕ → ℕ → List ℕ → Bool
-next_test trips sequence line = is_row (row_of line) && may_follow trips sequence (row_in (row_of line))
+next_test trips sequence line = is_some (row_of line) && may_follow trips sequence (row_in (row_of line))
 
 module _ (trips sequence : ℕ) (rest : List ℕ) where
   -- what is left begins with such a row exactly if it has a newline and what stands before it passes the test
   next_from : has newline rest ≡ true → next_test trips sequence (before newline rest) ≡ true → Next trips sequence rest
   next_from h t =
       let line = before newline rest in
-      let b = both (is_row (row_of line)) (may_follow trips sequence (row_in (row_of line))) t in
+      let b = both (is_some (row_of line)) (may_follow trips sequence (row_in (row_of line))) t in
       record {
         line = line;
         after = after newline rest;
@@ -133,19 +132,19 @@ module _ (trips sequence : ℕ) (rest : List ℕ) where
 
   -- where it does not, and something is left, the verdict is 31 there
   not_ended : (rest ≡ [] → ⊥) → (k : ℕ) → has newline rest ≡ false
-      → lines_verdict k trips sequence (lines_of rest) ≡ Refused refusal.wrong_row k
+      → lines_verdict k trips sequence (lines_of rest) ≡ Refused refusal.wrong_text_row k
   unfolding lines_verdict
   not_ended some k h = rw (lines_last rest h, ne_eqb (length rest) 0 (λ e. some (nothing rest e)))
 
   wrong_line : (Next trips sequence rest → ⊥) → (k : ℕ) → has newline rest ≡ true
-      → lines_verdict k trips sequence (lines_of rest) ≡ Refused refusal.wrong_row k
+      → lines_verdict k trips sequence (lines_of rest) ≡ Refused refusal.wrong_text_row k
   wrong_line none k h =
       let t : next_test trips sequence (before newline rest) ≡ false =
       ⊎_elim (λ t. absurd (none (next_from h t))) (λ t. t) (by_bool (next_test trips sequence (before newline rest))) in
       first_judged rest h k trips sequence ∙ rw t
 
   stops_here : (rest ≡ [] → ⊥) → (Next trips sequence rest → ⊥) → (k : ℕ)
-      → lines_verdict k trips sequence (lines_of rest) ≡ Refused refusal.wrong_row k
+      → lines_verdict k trips sequence (lines_of rest) ≡ Refused refusal.wrong_text_row k
   stops_here some none k = ⊎_elim (wrong_line none k) (not_ended some k) (by_bool (has newline rest))
 
 -- the rows that a text begins with, as many as are right
@@ -222,7 +221,7 @@ module _ {text rest : List ℕ} {rows : List StopTime} (f : Front text rows rest
       rw (front_body, e) (rows_passed f.lines 1 0 0 ((follow_iff rows).1 f.in_order))
 
 -- a text whose first line is another
-header_verdict_lem : (text : List ℕ) → ((body : List ℕ) → text ≡ header_text ++ body → ⊥) → text_verdict text ≡ Refused refusal.wrong_row 0
+header_verdict_lem : (text : List ℕ) → ((body : List ℕ) → text ≡ header_text ++ body → ⊥) → text_verdict text ≡ Refused refusal.wrong_text_row 0
 unfolding text_verdict
 header_verdict_lem text h =
     ⊎_elim
@@ -232,7 +231,7 @@ header_verdict_lem text h =
 
 -- one with something wrong after its rows
 broken_verdict : {text rest : List ℕ} {rows : List StopTime} → Front text rows rest → (rest ≡ [] → ⊥) → (NextRow rows rest → ⊥)
-    → text_verdict text ≡ Refused refusal.wrong_row (suc (length rows))
+    → text_verdict text ≡ Refused refusal.wrong_text_row (suc (length rows))
 unfolding text_verdict
 broken_verdict {rest = rest} {rows = rows} f some none =
     let no_more : Next (trips_after 0 rows) (sequence_after 0 rows) rest → ⊥ = λ x. none ((next_words rows rest).0 x) in
@@ -277,7 +276,7 @@ passed_good (broken f some none) h = absurd (passed_not_refused h (broken_verdic
 passed_good (whole {rows = rows} f) h =
     rw (whole_rows f) (record { whole = f; none_alone = (alone_passed rows f.in_order).0 (sym (whole_verdict f) ∙ h) })
 
-refused_wrong : {text : List ℕ} {n p : ℕ} → Case text → text_verdict text ≡ Refused n p → (n ≡ refusal.wrong_row) × WrongText text p
+refused_wrong : {text : List ℕ} {n p : ℕ} → Case text → text_verdict text ≡ Refused n p → (n ≡ refusal.wrong_text_row) × WrongText text p
 refused_wrong {text} {n} {p} (other_header w) h =
     let e = header_verdict_lem text w in
     let i : p ≡ 0 = cc in
@@ -290,11 +289,11 @@ refused_wrong {n = n} {p = p} (whole {rows = rows} f) h =
     let a = (alone_refused rows f.in_order n p).0 (sym (whole_verdict f) ∙ h) in
     (a.2, rw a.3 (alone_row a.0 f a.1 a.4 a.5))
 
-wrong_refused : {text : List ℕ} {p : ℕ} → WrongText text p → text_verdict text ≡ Refused refusal.wrong_row p
+wrong_refused : {text : List ℕ} {p : ℕ} → WrongText text p → text_verdict text ≡ Refused refusal.wrong_text_row p
 wrong_refused {text} (wrong_header w) = header_verdict_lem text w
 wrong_refused (wrong_row f some none) = broken_verdict f some none
 wrong_refused (alone_row {rows = rows} k f l a b) =
-    whole_verdict f ∙ (alone_refused rows f.in_order refusal.wrong_row (suc k)).1 (k, l, refl, refl, a, b)
+    whole_verdict f ∙ (alone_refused rows f.in_order refusal.wrong_text_row (suc k)).1 (k, l, refl, refl, a, b)
 
 -- a text is accepted, and these are its rows, exactly if it is a good text of them
 pub good_iff : (text : List ℕ) (rows : List StopTime) → ((text_verdict text ≡ Passed) × (rows_of text ≡ rows)) ↔ GoodText text rows
@@ -304,5 +303,5 @@ good_iff text rows = (
 )
 
 -- a text is refused with a number at a place exactly if the number is 31 and it is wrong there
-pub wrong_iff : (text : List ℕ) (n p : ℕ) → (text_verdict text ≡ Refused n p) ↔ ((n ≡ refusal.wrong_row) × WrongText text p)
+pub wrong_iff : (text : List ℕ) (n p : ℕ) → (text_verdict text ≡ Refused n p) ↔ ((n ≡ refusal.wrong_text_row) × WrongText text p)
 wrong_iff text n p = (refused_wrong (case_of text), λ w. wrong_refused w.1 ∙ ap (λ (m : ℕ). Refused m p) (sym w.0))

@@ -8,11 +8,10 @@ use Prim.Native.Nat.{ℕ, zero, suc, ◌<◌}
 use native.Mathlib.Omega.{arith}
 use borrow.Author.Tests.{eqb-true, eqb-false}
 use lib.ListN.{length}
-use Rattle.timetable.specs.Answers.{refuse_if}
-use Rattle.timetable.specs.declared.Verdict.TheVariants.{Passed}
+use Rattle.refusals.specs.Answers.{refuse_if, Passed}
 use Rattle.timetable.proofs.Tests.{by_bool, negated}
 use Rattle.timetable.proofs.Order.{passed_not_refused, else_passed, rule}
-use Rattle.gtfs.specs.RefusalNumber as refusal
+use Rattle.refusals.specs.RefusalNumber as refusal
 use Rattle.gtfs.specs.Feed.{Connection, may_follow, same_trip, alone_verdict, connection_of, connections_of}
 use Rattle.gtfs.specs.declared.StopTime.{StopTime}
 use Rattle.gtfs.proofs.RowsRead.{Follow}
@@ -34,8 +33,8 @@ not_alone : (k : ℕ) (joined : Bool) (row next : StopTime) (rows : List StopTim
     → (joined || same_trip row next ≡ true) × (alone_verdict (suc k) (same_trip row next) (next ∷ rows) ≡ Passed)
 unfolding alone_verdict
 not_alone k joined row next rows h =
-    let e = (else_passed (refuse_if (not (joined || same_trip row next)) refusal.wrong_row k) _).0 h in
-    ((rule (not (joined || same_trip row next)) refusal.wrong_row k (negated (joined || same_trip row next))).keeps e.0, e.1)
+    let e = (else_passed (refuse_if (not (joined || same_trip row next)) refusal.wrong_text_row k) _).0 h in
+    ((rule (not (joined || same_trip row next)) refusal.wrong_text_row k (negated (joined || same_trip row next))).keeps e.0, e.1)
 
 only_row : (k : ℕ) (row : StopTime) → alone_verdict k false (row ∷ []) ≡ Passed → ⊥
 unfolding alone_verdict

@@ -10,9 +10,9 @@ use borrow.Author.Tests.{ltb-true}
 use lib.Dec.{ltb}
 use lib.ListN.{length, get_or, take}
 use lib.Seq.{take-suc, take_all, length-take-le, get_or-take, ext_get_or}
+use Rattle.std.proofs.Common.{None}
 use Rattle.decimals.specs.Bytes.{newline, digit_zero}
 use Rattle.decimals.specs.Decimal.{value_after, value_of, decimal_of}
-use Rattle.decimals.proofs.Reading.{value_grows}
 use Rattle.decimals.proofs.Digits.{decimal_one, decimal_more, value_append}
 use Rattle.timetable.specs.File.{connections, stays_aboard}
 use Rattle.timetable.specs.Accepted.{Timetable}
@@ -21,7 +21,6 @@ use Rattle.gtfs.specs.Clock.{colon, time_text}
 use Rattle.gtfs.specs.StopTimes.{header_text, row_in}
 use Rattle.gtfs.specs.Rows.{trip_goes_on, rows_text, text_of}
 use Rattle.gtfs.specs.declared.StopTime.{StopTime}
-use Rattle.gtfs.specs.declared.Row.TheVariants.{Unreadable}
 use Rattle.gtfs.proofs.Clock.{time_bytes}
 use Rattle.gtfs.proofs.RowsRead.{row_line, row_line_lem}
 use Rattle.round_trips.proofs.TimetableRows.{first_starts}
@@ -30,6 +29,12 @@ use Rattle.feed_meanings.specs.Texts.{row_at}
 use Rattle.feed_meanings.specs.Exports.{start_place, Exported, NoLeadingZero, PlainRow, PlainLines, no_line, line_first, ExportedText}
 use Rattle.feed_meanings.proofs.Exports.{again_place, exported_rows}
 use Rattle.feed_meanings.proofs.Plain.{exported_text}
+
+-- digits more make no number smaller
+value_grows : (v : ℕ) (bs : List ℕ) → v ≤ value_after v bs
+unfolding value_after
+value_grows v [] = omega arith
+value_grows v (b ∷ bs) = omega (arith, value_grows (10 * v + (b - digit_zero)) bs)
 
 -- digits that do not begin with 0 are worth something
 some_value : (w : List ℕ) → 1 ≤ length w → Digits w → (get_or w 0 0 ≡ digit_zero → ⊥) → 1 ≤ value_of w
@@ -200,7 +205,7 @@ module _ (f : List ℕ) (t : Timetable f) {rows others : List StopTime} (x : Exp
   by_count zero e = x.none (sym e) ∙ sym (y.none (sym e))
   by_count (suc c) e =
       let n = x.as_many c e in
-      ext_get_or (row_in Unreadable) rows others
+      ext_get_or (row_in None) rows others
       (n ∙ sym (y.as_many c e))
       (λ i l. up_to_same c (omega arith) i (omega arith))
 

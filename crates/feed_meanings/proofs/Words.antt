@@ -9,15 +9,15 @@ use borrow.Author.Tests.{leb-true, le-leb, eqb-true, eq-eqb}
 use lib.Dec.{leb, eqb}
 use lib.ListN.{length, get_or, take, drop, take-append-drop, length-append, length-take, length-drop}
 use lib.Seq.{take_at, drop_at}
+use Rattle.std.proofs.Common.{Some, None}
 use Rattle.decimals.specs.Bytes.{digit_zero, digit_nine}
 use Rattle.decimals.specs.Decimal.{is_digit, all_digits, value_of, decimal}
-use Rattle.decimals.specs.declared.Number.TheVariants.{Is, Unread}
 use Rattle.timetable.proofs.Tests.{and_left, and_right, and_both, by_lt, or_cases, or_left, or_right}
 use Rattle.gtfs.specs.Clock.{colon, digit_five, clock_end, is_clock_end, minute_of, time_of}
 use Rattle.feed_meanings.specs.Words.{IsDigit, Digits, IsDecimal, IsTime}
 
 -- a number is read where a test passes alone
-reads : (b : Bool) (m n : ℕ) → cond b (Is m) Unread ≡ Is n → (b ≡ true) × (n ≡ m)
+reads : (b : Bool) (m n : ℕ) → cond b (Some m) None ≡ Some n → (b ≡ true) × (n ≡ m)
 reads true m n h = (refl, (cc))
 reads false m n h = absurd (let z : ◌≡◌ {A = ℕ} 0 1 = cc in omega arith)
 
@@ -52,7 +52,7 @@ digits (b ∷ w) = (
 )
 
 -- a word is a number exactly if it is its decimal
-pub decimal_iff : (w : List ℕ) (n : ℕ) → (decimal w ≡ Is n) ↔ IsDecimal w n
+pub decimal_iff : (w : List ℕ) (n : ℕ) → (decimal w ≡ Some n) ↔ IsDecimal w n
 unfolding decimal
 decimal_iff w n =
     let some = leb 1 (length w) in
@@ -115,7 +115,7 @@ clock_end_lem e l h =
 
 -- a word of this form is read
 time_read : {w : List ℕ} {t : ℕ} (d : IsTime w t)
-    → time_of (d.hours ++ (colon ∷ d.ten ∷ d.one ∷ colon ∷ digit_zero ∷ digit_zero ∷ [])) ≡ Is t
+    → time_of (d.hours ++ (colon ∷ d.ten ∷ d.one ∷ colon ∷ digit_zero ∷ digit_zero ∷ [])) ≡ Some t
 unfolding time_of is_clock_end
 time_read d =
     let h = d.hours in
@@ -139,7 +139,7 @@ time_read d =
     )
 
 -- a word is a time exactly if it has this form
-pub time_iff : (w : List ℕ) (t : ℕ) → (time_of w ≡ Is t) ↔ IsTime w t
+pub time_iff : (w : List ℕ) (t : ℕ) → (time_of w ≡ Some t) ↔ IsTime w t
 unfolding time_of is_clock_end
 time_iff w t =
     let hours = take (length w - clock_end) w in

@@ -2,7 +2,7 @@
 use Rattle.std.specs.Prelude.{List, ℕ, ◌<◌, length}
 use Rattle.timetable.specs.Accepted.{Timetable}
 use Rattle.timetable.specs.Refusals.{FileRefusal}
-use Rattle.gtfs.specs.RefusalNumber as refusal
+use Rattle.refusals.specs.RefusalNumber as refusal
 use Rattle.gtfs.specs.Rows.{text_of}
 use Rattle.gtfs.specs.Conversions.{imported_file}
 use Rattle.feed_meanings.specs.Imports.{GoodImport, WrongImport}

@@ -1,8 +1,7 @@
 -- When an import is accepted, and when it is refused with which number and place, before its output area is looked at. Assumes nothing.
 use Rattle.std.specs.Prelude.{List, ◌≡◌, ℕ, zero, suc, ◌<◌, ◌≤◌, length, get_or}
 use Rattle.numbers.specs.Numbers.{numbers_of}
-use Rattle.timetable.specs.RefusalNumber as timetable
-use Rattle.gtfs.specs.RefusalNumber as refusal
+use Rattle.refusals.specs.RefusalNumber as refusal
 use Rattle.gtfs.specs.Feed.{Connection, rows_of}
 use Rattle.gtfs.specs.Conversions.{text_connections}
 use Rattle.feed_meanings.specs.Texts.{GoodText, WrongText}
@@ -71,15 +70,15 @@ module _ (text change : List ℕ) where
 
   -- an import that is refused, with its number and place: 31 at a row, 4 or 5 at 0, 7 at a stop, 8, 10 or 11 at a connection
   pub data WrongImport : ℕ → ℕ → Type 0 where
-    wrong_text : (p : ℕ) → WrongText text p → WrongImport refusal.wrong_row p
-    wrong_stop_count_lem : GoodText text (rows_of text) → (SomeStops change → ⊥) → WrongImport timetable.wrong_stop_count 0
+    wrong_text : (p : ℕ) → WrongText text p → WrongImport refusal.wrong_text_row p
+    wrong_stop_count_lem : GoodText text (rows_of text) → (SomeStops change → ⊥) → WrongImport refusal.wrong_stop_count 0
     wrong_connection_count_lem : GoodText text (rows_of text) → SomeStops change → 2000 < length (text_connections text)
-        → WrongImport timetable.wrong_connection_count 0
+        → WrongImport refusal.wrong_connection_count 0
     wrong_transfer : (s : ℕ) → Counted → s < stop_count change → ((b : ℕ) → b < s → transfer_at change b ≤ 60) → 60 < transfer_at change s
-        → WrongImport timetable.wrong_transfer_time s
+        → WrongImport refusal.wrong_transfer_time s
     wrong_stops_lem : (c : ℕ) → Comes c → (TwoStops (stop_count change) (connection_at (text_connections text) c) → ⊥)
-        → WrongImport timetable.wrong_stops c
+        → WrongImport refusal.wrong_stops c
     wrong_times_lem : (c : ℕ) → Comes c → TwoStops (stop_count change) (connection_at (text_connections text) c)
-        → (Forward (connection_at (text_connections text) c) → ⊥) → WrongImport timetable.wrong_times c
+        → (Forward (connection_at (text_connections text) c) → ⊥) → WrongImport refusal.wrong_times c
     wrong_join_lem : (c : ℕ) → Comes c → TwoStops (stop_count change) (connection_at (text_connections text) c)
-        → Forward (connection_at (text_connections text) c) → (Keeps (text_connections text) c → ⊥) → WrongImport timetable.wrong_join c
+        → Forward (connection_at (text_connections text) c) → (Keeps (text_connections text) c → ⊥) → WrongImport refusal.wrong_join c

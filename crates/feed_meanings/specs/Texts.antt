@@ -1,15 +1,14 @@
 -- Which texts of rows are accepted, and at which row another one is refused with 31. Places in a list of rows count from 0, a
 -- refusal's place counts rows from 1: its 0 is the first line. Assumes nothing.
-use Rattle.std.specs.Prelude.{List, [], ◌∷◌, ◌++◌, ◌⊎◌, ◌≡◌, ℕ, zero, suc, ◌<◌, length, get_or}
+use Rattle.std.specs.Prelude.{None, List, [], ◌∷◌, ◌++◌, ◌⊎◌, ◌≡◌, ℕ, zero, suc, ◌<◌, length, get_or}
 use Rattle.decimals.specs.Bytes.{newline}
 use Rattle.gtfs.specs.StopTimes.{header_text, row_in}
 use Rattle.gtfs.specs.declared.StopTime.{StopTime}
-use Rattle.gtfs.specs.declared.Row.TheVariants.{Unreadable}
 use Rattle.feed_meanings.specs.Words.{IsRow}
 
 -- the row at a place
 abbrev pub row_at : List StopTime → ℕ → StopTime
-row_at rows k = get_or rows k (row_in Unreadable)
+row_at rows k = get_or rows k (row_in None)
 
 -- a row goes on in the trip of the row before it: its stop_sequence is higher
 pub record GoesOn (row next : StopTime) : Type 0 where

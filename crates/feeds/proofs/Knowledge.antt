@@ -2,25 +2,27 @@
 -- Assumes nothing.
 use mathlib.Core.Path.{◌≡◌, refl, sym, ap, ◌∙◌}
 use mathlib.Core.Logic.{⊎_elim}
-use mathlib.Core.Bool.{true, false, not, or-true, or-false}
+use mathlib.Core.Bool.{Bool, true, false, cond, not, or-true, or-false}
 use mathlib.Core.List.{List, [], ◌∷◌, ◌++◌, foldl}
 use Prim.Native.Nat.{ℕ, suc, ◌+◌, ◌*◌, ◌<◌, ◌≤◌}
+use native.Mathlib.Nat.{add-zero}
 use native.Mathlib.Numerals.{add-one}
 use native.Mathlib.Omega.{arith}
 use borrow.Author.Tests.{eq-eqb, ne_eqb, lt-ltb, eqb-true}
 use lib.Dec.{eqb, eqb-suc-suc}
 use lib.ListN.{length}
 use lib.Seq.{sets}
+use Rattle.std.proofs.Common.{Option, Some, None}
+use Rattle.std.specs.Option.{option_or}
 use Rattle.numbers.specs.Numbers.{bytes_of}
 use Rattle.numbers.proofs.Bytes.{length_bytes, bytes_append}
 use Rattle.decimals.proofs.Written.{sets_append}
 use Rattle.timetable.specs.File.{connection_length}
 use Rattle.timetable.specs.Check.{max_connections}
-use Rattle.timetable.specs.Answers.{refuse_if, or_else}
-use Rattle.timetable.specs.declared.Verdict.{Verdict}
+use Rattle.refusals.specs.Answers.{refuse_if, or_else, Verdict, Passed, Refused}
 use Rattle.timetable.proofs.Tests.{by_bool, by_eq}
 use Rattle.timetable.proofs.Order.{or_passed, else_assoc}
-use Rattle.gtfs.specs.RefusalNumber as refusal
+use Rattle.refusals.specs.RefusalNumber as refusal
 use Rattle.gtfs.specs.declared.StopTime.{StopTime}
 use Rattle.gtfs.specs.Feed.{Connection, same_trip, alone_verdict, connection_of, connections_of}
 use Rattle.gtfs.specs.Files.{numbers_in, connection_numbers}
@@ -29,52 +31,46 @@ use Rattle.feeds.specs.Progress.{alone_after, advanced, connection_to, connected
 
 -- what is known before the first row
 abbrev pub start : Progress
-start = record { row = 0; trips = 0; stop = 0; departure = 0; sequence = 0; joined = true; alone = 0; connections = 0 }
+start = record { row = 0; trips = 0; stop = 0; departure = 0; sequence = 0; joined = true; alone = None; connections = 0 }
 
 -- the area of connections after some rows
 unfoldable pub filled : Progress → List StopTime → List ℕ → List ℕ
 filled p [] area = area
 filled p (row ∷ rows) area = filled (advanced p row) rows (connected p row area)
 
--- 31 at a row found, 0 for none
-abbrev pub found_at : ℕ → Verdict
-found_at n = refuse_if (not (eqb n 0)) refusal.wrong_row n
+-- 31 at a row found
+abbrev pub found_at : Option ℕ → Verdict
+found_at None = Passed
+found_at (Some n) = Refused refusal.wrong_text_row n
 
 -- what is known after a row tells of it
 pub record Tells (p : Progress) (row : StopTime) : Type 0 where
-  pub some : 0 < p.row
   pub began : p.trips ≡ suc row.trip
   pub stop : p.stop ≡ row.stop
   pub departure : p.departure ≡ row.departure
   pub sequence : p.sequence ≡ row.sequence
 
 pub tells : (p : Progress) (row : StopTime) → Tells (advanced p row) row
-tells p row =
-    ⊎_elim
-    (λ e. rw e (record { some = omega arith; began = add-one row.trip; stop = refl; departure = refl; sequence = refl }))
-    (λ e. rw e (record { some = omega arith; began = add-one row.trip; stop = refl; departure = refl; sequence = refl }))
-    (by_bool (eqb (row.trip + 1) p.trips))
+tells p row = record { began = add-one row.trip; stop = refl; departure = refl; sequence = refl }
 
 -- one row more
 pub row_more : (p : Progress) (row : StopTime) → (advanced p row).row ≡ suc p.row
-row_more p row = ⊎_elim (λ e. rw e (add-one p.row)) (λ e. rw e (add-one p.row)) (by_bool (eqb (row.trip + 1) p.trips))
+row_more p row = add-one p.row
 
 -- no trip has begun before the first row
 none_begun : (row : StopTime) → eqb (row.trip + 1) 0 ≡ false
 none_begun row = ne_eqb (row.trip + 1) 0 (λ (e : row.trip + 1 ≡ 0). omega arith)
 
+found_or : (joined : Bool) (alone : Option ℕ) (row : ℕ)
+    → found_at (cond joined alone (option_or alone (Some row))) ≡ or_else (found_at alone) (refuse_if (not joined) refusal.wrong_text_row row)
+found_or true alone row = sym (or_passed (found_at alone))
+found_or false None row = refl
+found_or false (Some n) row = refl
+
 -- a row found alone, and then the last one
-alone_found : (p : Progress) → 0 < p.row
-    → found_at (alone_after p) ≡ or_else (found_at p.alone) (refuse_if (not p.joined) refusal.wrong_row p.row)
-alone_found p some =
-    ⊎_elim
-    (λ (e : p.joined ≡ true). rw (alone_after, e) (sym (or_passed (found_at p.alone))))
-    (λ (e : p.joined ≡ false).
-    ⊎_elim
-    (λ (z : p.alone ≡ 0). rw (alone_after, e, z, ne_eqb p.row 0 (λ (n : p.row ≡ 0). omega arith)))
-    (λ (z : p.alone ≡ 0 → ⊥). rw (alone_after, e, ne_eqb p.alone 0 z) (rw (ne_eqb p.alone 0 z)))
-    (by_eq p.alone 0))
-    (by_bool p.joined)
+alone_found : (p : Progress)
+    → found_at (alone_after p) ≡ or_else (found_at p.alone) (refuse_if (not p.joined) refusal.wrong_text_row p.row)
+alone_found p = found_or p.joined p.alone p.row
 
 module _ (p : Progress) (row next : StopTime) (t : Tells p row) where
   -- whether the next row goes on in the trip
@@ -94,14 +90,14 @@ module _ (p : Progress) (row next : StopTime) (t : Tells p row) where
 alone_told : (rows : List StopTime) (p : Progress) (row : StopTime) → Tells p row
     → found_at (alone_after (foldl advanced p rows)) ≡ or_else (found_at p.alone) (alone_verdict p.row p.joined (row ∷ rows))
 unfolding alone_verdict
-alone_told [] p row t = alone_found p t.some
+alone_told [] p row t = alone_found p
 alone_told (next ∷ rows) p row t =
     alone_told rows (advanced p next) next (tells p next)
     ∙ ⊎_elim
     (λ (e : same_trip row next ≡ true). rw (advanced, goes_on p row next t, e, or-true, add-one p.row))
     (λ (e : same_trip row next ≡ false).
     rw (advanced, goes_on p row next t, e, or-false, add-one p.row)
-    (rw (alone_found p t.some) (else_assoc (found_at p.alone) (refuse_if (not p.joined) refusal.wrong_row p.row) _)))
+    (rw (alone_found p) (else_assoc (found_at p.alone) (refuse_if (not p.joined) refusal.wrong_text_row p.row) _)))
     (by_bool (same_trip row next))
 
 -- one row more, of a row, the next one and those after it
@@ -112,7 +108,7 @@ module _ (rows : List StopTime) (p : Progress) (row next : StopTime) (t : Tells 
   count_turn =
       ⊎_elim
       (λ (e : same_trip row next ≡ true). rw (advanced, goes_on p row next t, e) (omega arith))
-      (λ (e : same_trip row next ≡ false). rw (advanced, goes_on p row next t, e))
+      (λ (e : same_trip row next ≡ false). rw (advanced, goes_on p row next t, e) (omega arith))
       (by_bool (same_trip row next))
 
   place_turn : (area : List ℕ) → p.connections + length (connections_of (row ∷ next ∷ rows)) ≤ max_connections
@@ -131,7 +127,7 @@ module _ (rows : List StopTime) (p : Progress) (row next : StopTime) (t : Tells 
       rw (advanced, connected, goes_on p row next t, e, lt-ltb p.connections max_connections few)
       (rw (d, sets_append area at (bytes_of ns) (bytes_of ms), ← bytes_append ns ms)
       (ap (λ (c : Connection). sets area at (bytes_of (numbers_in c ++ ms))) (same_connection p row next t e))))
-      (λ (e : same_trip row next ≡ false). rw (advanced, connected, goes_on p row next t, e))
+      (λ (e : same_trip row next ≡ false). rw (advanced, connected, goes_on p row next t, e, add-zero))
       (by_bool (same_trip row next))
 
 -- how many connections a row and those after it make

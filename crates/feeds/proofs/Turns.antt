@@ -10,26 +10,22 @@ use borrow.Author.Tests.{ne_eqb, ltb-true}
 use lib.Dec.{eqb, ltb}
 use lib.ListN.{length, drop, length-drop, length-append, drop_of_length-le}
 use lib.Seq.{length-sets}
+use Rattle.std.proofs.Common.{Option, Some, None, is_some}
+use Rattle.std.proofs.lemmas.Option.{none-some, some_pair_parts}
 use Rattle.decimals.specs.Bytes.{newline}
 use Rattle.timetable.specs.Check.{max_connections}
-use Rattle.timetable.specs.declared.Verdict.TheVariants.{Passed, Refused}
+use Rattle.refusals.specs.Answers.{Passed, Refused}
 use Rattle.timetable.proofs.Tests.{by_bool}
 use Rattle.cuts.specs.Cut.{has, before, after, pieces, lines_of}
 use Rattle.cuts.proofs.Cut.{has_end, lines_last, starts_append}
 use Rattle.cuts.proofs.Pieces.{piece_after}
-use Rattle.gtfs.specs.RefusalNumber as refusal
+use Rattle.refusals.specs.RefusalNumber as refusal
 use Rattle.gtfs.specs.declared.StopTime.{StopTime}
-use Rattle.gtfs.specs.declared.Row.{Row}
-use Rattle.gtfs.specs.declared.Row.TheVariants as G
-use Rattle.gtfs.specs.StopTimes.{header_text, row_of, is_row, row_in}
+use Rattle.gtfs.specs.StopTimes.{header_text, row_of, row_in}
 use Rattle.gtfs.specs.Feed.{may_follow, lines_verdict, rows_in, rows_of, body_of}
 use Rattle.gtfs.proofs.Lines.{first_judged, first_row}
-use Rattle.stop_times.specs.Columns.{line_of, line_at}
-use Rattle.stop_times.specs.declared.Line.{Line}
-use Rattle.stop_times.specs.declared.Line.TheVariants as L
+use Rattle.stop_times.specs.Columns.{with_next, line_at}
 use Rattle.feeds.specs.declared.Progress.{Progress}
-use Rattle.feeds.specs.declared.Turn.{Turn}
-use Rattle.feeds.specs.declared.Turn.TheVariants as T
 use Rattle.feeds.specs.Progress.{advanced, connected}
 use Rattle.feeds.specs.Reading.{Taking, Taken, Reading, turned, area_after}
 use Rattle.feeds.proofs.Knowledge.{start, filled, tells, row_more}
@@ -57,30 +53,27 @@ reached_first text area h =
       made = refl;
     }
 
--- two ways of a turn are not one
-on_or_wrong : {p : Progress} {next : ℕ} → T.On p next ≡ T.Wrong → ⊥
-on_or_wrong {p} {next} e = let z : ◌≡◌ {A = ℕ} 0 1 = cc in omega arith
-
 -- a line that is a row
-line_row : (r : Row) (m : ℕ) (row : StopTime) (next : ℕ) → line_of r m ≡ L.Row row next → (r ≡ G.Reads row) × (m ≡ next)
-line_row (G.Reads x) m row next h = (cc, cc)
-line_row G.Unreadable m row next h = absurd (let z : ◌≡◌ {A = ℕ} 0 1 = cc in omega arith)
+line_row : (r : Option StopTime) (m : ℕ) (row : StopTime) (next : ℕ) → with_next r m ≡ Some (row, next)
+    → (r ≡ Some row) × (m ≡ next)
+line_row (Some x) m row next h = let e = some_pair_parts x row m next h in (ap Some e.0, e.1)
+line_row None m row next h = absurd (none-some (row, next) h)
 
 module _ (text : List ℕ) (at : ℕ) where
   -- a row at a place of a text: a newline ends it, and the next line starts after that
   pub record RowAt (row : StopTime) (next : ℕ) : Type 0 where
     pub ended : has newline (drop at text) ≡ true
-    pub reads : row_of (before newline (drop at text)) ≡ G.Reads row
+    pub reads : row_of (before newline (drop at text)) ≡ Some row
     pub starts : at + length (before newline (drop at text)) + 1 ≡ next
 
-  row_at_lem : (row : StopTime) (next : ℕ) → line_at text at ≡ L.Row row next → RowAt row next
+  row_at_lem : (row : StopTime) (next : ℕ) → line_at text at ≡ Some (row, next) → RowAt row next
   row_at_lem row next h =
       ⊎_elim
       (λ (e : has newline (drop at text) ≡ true).
       let l = line_row (row_of (before newline (drop at text))) _ row next (rw e at h) in
       record { ended = e; reads = l.0; starts = l.1 })
       (λ (e : has newline (drop at text) ≡ false).
-      let w : L.Wrong ≡ L.Row row next = rw e at h in absurd (let z : ◌≡◌ {A = ℕ} 0 1 = cc in omega arith))
+      absurd (none-some (row, next) (rw e at h)))
       (by_bool (has newline (drop at text)))
 
   module _ {row : StopTime} {next : ℕ} (l : RowAt row next) where
@@ -142,36 +135,34 @@ module _ {text first area : List ℕ} {p : Progress} {at : ℕ} (h : Reached tex
       )
 
   -- a turn that goes on
-  reached_line : (l : Line) → line_at text at ≡ l → {after : Progress} {next : ℕ} → turned p l ≡ T.On after next
+  reached_line : (l : Option (StopTime × ℕ)) → line_at text at ≡ l → {after : Progress} {next : ℕ} → turned p l ≡ Some (after, next)
       → (at < next) × Reached text first (area_after p l area) after next
-  reached_line (L.Row row n) e {after} {next} t =
+  reached_line (Some (row, n)) e {after} {next} t =
       ⊎_elim
       (λ (f : may_follow p.trips p.sequence row ≡ true).
-      let o : T.On (advanced p row) n ≡ T.On after next = rw (turned, f) at t in
-      let a : advanced p row ≡ after = cc in
-      let m : n ≡ next = cc in
-      rw (area_after, f, ← a, ← m) (reached_row row n (row_at_lem text at row n e) f))
-      (λ (f : may_follow p.trips p.sequence row ≡ false). absurd (on_or_wrong (sym (rw (turned, f) at t))))
+      let o = some_pair_parts (advanced p row) after n next (rw (turned, f) at t) in
+      rw (area_after, f, ← o.0, ← o.1) (reached_row row n (row_at_lem text at row n e) f))
+      (λ (f : may_follow p.trips p.sequence row ≡ false). absurd (none-some (after, next) (rw (turned, f) at t)))
       (by_bool (may_follow p.trips p.sequence row))
-  reached_line L.Wrong e t = absurd (on_or_wrong (sym t))
+  reached_line None e {after} {next} t = absurd (none-some (after, next) t)
 
-  pub reached_next : {r : Turn} {left : List ℕ} {after : Progress} {next : ℕ} → Taken r left area text at p → r ≡ T.On after next
+  pub reached_next : {r : Option (Progress × ℕ)} {left : List ℕ} {after : Progress} {next : ℕ} → Taken r left area text at p → r ≡ Some (after, next)
       → (at < next) × Reached text first left after next
   reached_next t e = rw t.area (reached_line (line_at text at) refl (sym t.turn ∙ e))
 
   -- a line that is no row that may follow
-  wrong_line : (r : Row) (next : ℕ) → turned p (line_of r next) ≡ T.Wrong
-      → is_row r && may_follow p.trips p.sequence (row_in r) ≡ false
-  wrong_line (G.Reads row) next t =
+  wrong_line : (r : Option StopTime) (next : ℕ) → turned p (with_next r next) ≡ None
+      → is_some r && may_follow p.trips p.sequence (row_in r) ≡ false
+  wrong_line (Some row) next t =
       ⊎_elim
-      (λ (f : may_follow p.trips p.sequence row ≡ true). absurd (on_or_wrong (rw (turned, f) at t)))
+      (λ (f : may_follow p.trips p.sequence row ≡ true). absurd (none-some (advanced p row, next) (sym (rw (turned, f) at t))))
       (λ (f : may_follow p.trips p.sequence row ≡ false). f)
       (by_bool (may_follow p.trips p.sequence row))
-  wrong_line G.Unreadable next t = refl
+  wrong_line None next t = refl
 
   -- a turn that ends at such a line
-  pub reached_wrong : {r : Turn} {left : List ℕ} → at < length text → Taken r left area text at p → r ≡ T.Wrong
-      → lines_verdict 1 0 0 (lines_of (body_of text)) ≡ Refused refusal.wrong_row (suc p.row)
+  pub reached_wrong : {r : Option (Progress × ℕ)} {left : List ℕ} → at < length text → Taken r left area text at p → r ≡ None
+      → lines_verdict 1 0 0 (lines_of (body_of text)) ≡ Refused refusal.wrong_text_row (suc p.row)
   unfolding lines_verdict
   reached_wrong inside t e =
       let rest = drop at text in

@@ -5,38 +5,37 @@ use mathlib.Core.List.{List}
 use Prim.Native.Nat.{ℕ, suc, ◌+◌, ◌≤◌}
 use native.Mathlib.Numerals.{add-one}
 use native.Mathlib.Omega.{arith}
-use borrow.Author.Tests.{ne_eqb}
 use lib.ListN.{length}
-use Rattle.timetable.specs.declared.Verdict.TheVariants.{Refused}
+use Rattle.std.proofs.Common.{Ok, Err, Some, None}
+use Rattle.refusals.specs.Answers.{Refused}
 use Rattle.cuts.specs.Cut.{starts_with, lines_of}
-use Rattle.gtfs.specs.RefusalNumber as refusal
+use Rattle.refusals.specs.RefusalNumber as refusal
 use Rattle.gtfs.specs.StopTimes.{header_text}
 use Rattle.gtfs.specs.Feed.{lines_verdict, rows_of, body_of, text_verdict}
 use Rattle.gtfs.specs.Conversions.{text_connections}
 use Rattle.feeds.specs.declared.Progress.{Progress}
-use Rattle.feeds.specs.declared.Rows.TheVariants as R
 use Rattle.feeds.specs.Progress.{alone_after}
 use Rattle.feeds.specs.Reading.{RowsRead}
 use Rattle.feeds.proofs.Knowledge.{found_at, alone_known, count_known, places_known}
 use Rattle.feeds.proofs.Turns.{Reached, reached_end}
 
 -- a row to refuse is no count
-not_counted : {k n : ℕ} → R.Wrong k ≡ R.Connections n → ⊥
+not_counted : {k n : ℕ} → Err k ≡ Ok n → ⊥
 not_counted {k} {n} e = let z : ◌≡◌ {A = ℕ} 0 1 = cc in omega arith
 
 module _ (text first area : List ℕ) where
   -- a text that is refused
-  wrong_read : (k : ℕ) → text_verdict text ≡ Refused refusal.wrong_row k → RowsRead (R.Wrong k) area first text
+  wrong_read : (k : ℕ) → text_verdict text ≡ Refused refusal.wrong_text_row k → RowsRead (Err k) area first text
   wrong_read k e =
       record { verdict = sym e; count = λ n d. absurd (not_counted d); stands = λ n d l. absurd (not_counted d) }
 
-  pub header_wrong : starts_with header_text text ≡ false → RowsRead (R.Wrong 0) area first text
+  pub header_wrong : starts_with header_text text ≡ false → RowsRead (Err 0) area first text
   unfolding text_verdict
   header_wrong h = wrong_read 0 (rw h)
 
   module _ (header : starts_with header_text text ≡ true) where
-    pub row_wrong : (k : ℕ) → lines_verdict 1 0 0 (lines_of (body_of text)) ≡ Refused refusal.wrong_row (suc k)
-        → RowsRead (R.Wrong (k + 1)) area first text
+    pub row_wrong : (k : ℕ) → lines_verdict 1 0 0 (lines_of (body_of text)) ≡ Refused refusal.wrong_text_row (suc k)
+        → RowsRead (Err (k + 1)) area first text
     unfolding text_verdict
     row_wrong k e = wrong_read (k + 1) (rw (header, e, add-one k))
 
@@ -49,17 +48,16 @@ module _ (text first area : List ℕ) where
           rw (header, e.0) (sym (alone_known (rows_of text)) ∙ ap (λ (q : Progress). found_at (alone_after q)) (sym e.1))
 
       -- the first row found alone
-      module _ (k : ℕ) (found : k ≡ alone_after p) where
-        pub alone_wrong : (k ≡ 0 → ⊥) → RowsRead (R.Wrong k) area first text
-        alone_wrong some = wrong_read k (end_told ∙ rw (← found, ne_eqb k 0 some))
+      pub alone_wrong : (k : ℕ) → Some k ≡ alone_after p → RowsRead (Err k) area first text
+      alone_wrong k found = wrong_read k (end_told ∙ rw (← found))
 
-        pub rows_right : k ≡ 0 → RowsRead (R.Connections p.connections) area first text
-        rows_right none =
-            let e = reached_end h past in
-            let c : p.connections ≡ length (text_connections text) =
-            ap (λ (q : Progress). q.connections) e.1 ∙ count_known (rows_of text) in
-            record {
-              verdict = sym (end_told ∙ rw (← found, none));
-              count = λ n d. let m : n ≡ p.connections = cc in m ∙ c;
-              stands = λ n d l. e.2 ∙ places_known (rows_of text) first (let m : n ≡ p.connections = cc in omega arith);
-            }
+      pub rows_right : None ≡ alone_after p → RowsRead (Ok p.connections) area first text
+      rows_right none =
+          let e = reached_end h past in
+          let c : p.connections ≡ length (text_connections text) =
+          ap (λ (q : Progress). q.connections) e.1 ∙ count_known (rows_of text) in
+          record {
+            verdict = sym (end_told ∙ rw (← none));
+            count = λ n d. let m : n ≡ p.connections = cc in m ∙ c;
+            stands = λ n d l. e.2 ∙ places_known (rows_of text) first (let m : n ≡ p.connections = cc in omega arith);
+          }

@@ -1,6 +1,7 @@
 -- What is known after some rows of a text, and after one row more. Assumes nothing.
-use Rattle.std.specs.Prelude.{true, false, cond, ◌&&◌, List, ℕ, ◌*◌, ◌^◌, ◌+◌, ◌<◌, ◌≤◌, ltb, eqb}
+use Rattle.std.specs.Prelude.{cond, Option, Some, ◌&&◌, List, ℕ, ◌*◌, ◌^◌, ◌+◌, ◌<◌, ◌≤◌, ltb, eqb}
 use Rattle.std.proofs.lemmas.List.Edits.{sets}
+use Rattle.std.specs.Option.{option_or}
 use Rattle.numbers.specs.Numbers.{bytes_of}
 use Rattle.timetable.specs.File.{connection_length}
 use Rattle.timetable.specs.Check.{max_connections}
@@ -14,38 +15,28 @@ abbrev pub connections_room : ℕ
 connections_room = connection_length * max_connections
 
 -- the first row found alone in its trip, where the last row's trip ends with it
-abbrev pub alone_after : Progress → ℕ
-alone_after p = cond p.joined p.alone (cond (eqb p.alone 0) p.row p.alone)
+abbrev pub alone_after : Progress → Option ℕ
+alone_after p = cond p.joined p.alone (option_or p.alone (Some p.row))
 
 -- what is known stays within 64 bits with one row more
 pub record Advancing (p : Progress) : Type 0 where
   pub few : p.connections ≤ p.row
   pub fits : p.row + 1 < 2 ^ 64
 
--- what is known after a row that goes on in the last trip, and after one that begins the next
+-- what is known after a row, which goes on in the last trip or begins the next
 abbrev pub advanced : Progress → StopTime → Progress
 advanced p row =
-    cond (eqb (row.trip + 1) p.trips)
-    (record {
+    let joined = eqb (row.trip + 1) p.trips in
+    record {
       row = p.row + 1;
       trips = row.trip + 1;
       stop = row.stop;
       departure = row.departure;
       sequence = row.sequence;
-      joined = true;
-      alone = p.alone;
-      connections = p.connections + 1;
-    })
-    (record {
-      row = p.row + 1;
-      trips = row.trip + 1;
-      stop = row.stop;
-      departure = row.departure;
-      sequence = row.sequence;
-      joined = false;
-      alone = alone_after p;
-      connections = p.connections;
-    })
+      joined = joined;
+      alone = cond joined p.alone (alone_after p);
+      connections = p.connections + cond joined 1 0;
+    }
 
 -- the connection from the last row to the next one of its trip
 abbrev pub connection_to : Progress → StopTime → Connection

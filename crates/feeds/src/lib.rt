@@ -7,7 +7,6 @@ ghost use Rattle.feeds.specs.Progress.{connections_room, alone_after, Advancing,
 ghost use Rattle.feeds.specs.Reading.{Taking, Taken, Reading, RowsRead};
 
 use gtfs::StopTime;
-use stop_times::Line;
 
 // How many bytes the connections of a timetable have at most: `connections_room`.
 pub const CONNECTIONS_ROOM: usize = timetable::CONNECTION_LENGTH * timetable::MAX_CONNECTIONS;
@@ -23,26 +22,12 @@ pub struct Progress {
     pub stop: u16,
     pub departure: u16,
     pub sequence: u16,
-    // whether the last row has the trip of the one before it, or there is none
+    // whether the last row has the trip of the one before it, or there is none: no value hangs on it
     pub joined: bool,
-    // the first row found alone in its trip, 0 for none
-    pub alone: usize,
+    // the first row found alone in its trip
+    pub alone: Option<usize>,
     // how many connections the rows make
     pub connections: usize,
-}
-
-// What is known after one row more and where the next line starts, or a line that is no row that may follow.
-#[derive(Clone, Copy)]
-pub enum Turn {
-    On(Progress, usize),
-    Wrong,
-}
-
-// What the rows of a text tell: how many connections they make, or the row to refuse.
-#[derive(Clone, Copy)]
-pub enum Rows {
-    Connections(usize),
-    Wrong(usize),
 }
 
 // Whether a row may come next.
@@ -50,26 +35,17 @@ fn may_follow(progress: Progress, row: StopTime) -> bool
     ensures { result ≡ may_follow progress.trips progress.sequence row }
 {
     let trip = row.trip as u32;
-    if trip == progress.trips {
-        return true;
-    }
-    if trip + 1 != progress.trips {
-        return false;
-    }
-    progress.sequence < row.sequence
+    trip == progress.trips || trip + 1 == progress.trips && progress.sequence < row.sequence
 }
 
 // The first row found alone in its trip, where the last row's trip ends with it.
-fn alone_after(progress: Progress) -> usize
+fn alone_after(progress: Progress) -> Option<usize>
     ensures { result ≡ alone_after progress }
 {
     if progress.joined {
-        return progress.alone;
-    }
-    if progress.alone == 0 {
-        progress.row
-    } else {
         progress.alone
+    } else {
+        progress.alone.or(Some(progress.row))
     }
 }
 
@@ -79,27 +55,20 @@ fn advance(progress: Progress, row: StopTime) -> Progress
     ensures { result ≡ advanced progress row }
 {
     let trips = row.trip as u32 + 1;
-    if trips == progress.trips {
-        return Progress {
-            row: progress.row + 1,
-            trips,
-            stop: row.stop,
-            departure: row.departure,
-            sequence: row.sequence,
-            joined: true,
-            alone: progress.alone,
-            connections: progress.connections + 1,
-        };
-    }
+    let joined = trips == progress.trips;
     Progress {
         row: progress.row + 1,
         trips,
         stop: row.stop,
         departure: row.departure,
         sequence: row.sequence,
-        joined: false,
-        alone: alone_after(progress),
-        connections: progress.connections,
+        joined,
+        alone: if joined {
+            progress.alone
+        } else {
+            alone_after(progress)
+        },
+        connections: progress.connections + usize::from(joined),
     }
 }
 
@@ -127,24 +96,27 @@ fn put_connection(progress: Progress, row: StopTime, area: &mut [u8])
     numbers::write_area(&connection, &mut area[at..end]);
 }
 
-// One row more of a text, from a place on.
-fn take_row(text: &[u8], at: usize, progress: Progress, area: &mut [u8]) -> Turn
+// One row more of a text, from a place on: what is known then and where the next line starts; none where the line is no row that may
+// follow.
+fn take_row(
+    text: &[u8],
+    at: usize,
+    progress: Progress,
+    area: &mut [u8],
+) -> Option<(Progress, usize)>
     requires { Taking text.now at progress area.old }
     ensures { Taken result area.new area.old text.now at progress }
 {
-    let line = stop_times::next_row(text, at);
-    let Line::Row(row, next) = line else {
-        return Turn::Wrong;
-    };
+    let (row, next) = stop_times::next_row(text, at)?;
     if !may_follow(progress, row) {
-        return Turn::Wrong;
+        return None;
     }
     put_connection(progress, row, area);
-    Turn::On(advance(progress, row), next)
+    Some((advance(progress, row), next))
 }
 
-// The rows after the first line of a text.
-fn read_body(text: &[u8], area: &mut [u8]) -> Rows
+// The rows after the first line of a text: how many connections they make, or the row to refuse.
+fn read_body(text: &[u8], area: &mut [u8]) -> Result<usize, usize>
     requires { Reading text.now area.old }
     ensures { RowsRead result area.new area.old text.now }
 {
@@ -155,28 +127,22 @@ fn read_body(text: &[u8], area: &mut [u8]) -> Rows
         departure: 0,
         sequence: 0,
         joined: true,
-        alone: 0,
+        alone: None,
         connections: 0,
     };
     let mut at = gtfs::HEADER_TEXT_LENGTH;
     while at < text.len() {
-        let turn = take_row(text, at, progress, area);
-        let Turn::On(after, next) = turn else {
-            return Rows::Wrong(progress.row + 1);
-        };
-        progress = after;
-        at = next;
+        (progress, at) = take_row(text, at, progress, area).ok_or(progress.row + 1)?;
     }
-    let alone = alone_after(progress);
-    if alone == 0 {
-        Rows::Connections(progress.connections)
-    } else {
-        Rows::Wrong(alone)
+    match alone_after(progress) {
+        Some(row) => Err(row),
+        None => Ok(progress.connections),
     }
 }
 
-// Whether a text's rows are as they have to be, and the connections that they make, into an area, as far as a timetable has connections.
-pub fn read_rows(text: &[u8], area: &mut [u8]) -> Rows
+// The connections that a text's rows make, into an area, as far as a timetable has connections: how many they are, or the row to refuse.
+#[tactic(auto, using(crate::proofs::Verdicts::header_wrong))]
+pub fn read_rows(text: &[u8], area: &mut [u8]) -> Result<usize, usize>
     requires { length area.old ≡ connections_room }
     ensures { RowsRead result area.new area.old text.now }
 {
@@ -184,7 +150,7 @@ pub fn read_rows(text: &[u8], area: &mut [u8]) -> Rows
         text,
         b"trip_id,arrival_time,departure_time,stop_id,stop_sequence\n",
     ) {
-        return Rows::Wrong(0);
+        return Err(0);
     }
     read_body(text, area)
 }

@@ -7,7 +7,7 @@ use native.Mathlib.Numerals.{add-one}
 use native.Mathlib.Omega.{arith}
 use Rattle.timetable.specs.File.{stays_aboard}
 use Rattle.gtfs.specs.Rows.{position}
-use Rattle.gtfs.proofs.Rows.{position_next, position_low}
+use Rattle.gtfs.proofs.Rows.{position_next, position_low, position_first}
 use Rattle.file_rows.specs.Positions.{last_position}
 
 module _ (f : List ℕ) where
@@ -24,3 +24,6 @@ module _ (f : List ℕ) where
   -- the position before the next connection
   pub last_next : (c : ℕ) → last_position f (c + 1) ≡ position f c
   last_next c = rw (add-one c)
+
+-- what the position of a connection goes by
+pub ruleset turns = (position_after, last_low, position_first)

@@ -6,16 +6,16 @@ use Prim.Native.Nat.{ℕ, ◌≤◌}
 use native.Mathlib.Omega.{arith}
 use lib.ListN.{length, take, drop, take-append-drop}
 use lib.Seq.{take-append-le, drop-append-le}
-use Rattle.numbers.specs.Numbers.{numbers_of, over, over_bytes}
-use Rattle.numbers.proofs.Areas.{Bytes, length_numbers, over_take, front_read, changed_written}
+use Rattle.numbers.specs.Numbers.{numbers_of, over_bytes}
+use Rattle.numbers.proofs.Areas.{Bytes, changed_written}
 use Rattle.timetable.specs.Check.{max_connections, file_verdict}
 use Rattle.timetable.specs.File.{connections}
-use Rattle.timetable.specs.declared.Verdict.TheVariants.{Passed}
+use Rattle.refusals.specs.Answers.{Passed}
 use Rattle.timetable.proofs.Accepted.{accepted_iff}
 use Rattle.model.specs.Day.{lent}
 use Rattle.model.specs.Drawn.{graph_length, most_graph}
 use Rattle.model.proofs.Fronts.{Covers, fronts}
-use Rattle.fronts.specs.Fronts.{lent_bytes, front_length, FrontsFit, ReadBoth}
+use Rattle.fronts.specs.Fronts.{lent_bytes, ReadBoth}
 
 -- the fronts are long enough for an accepted timetable
 pub graph_covers : (f area : List ℕ) → file_verdict f ≡ Passed → Covers most_graph (graph_length f) area
@@ -23,12 +23,6 @@ graph_covers f area h = let t = (accepted_iff f).0 h in omega (arith, t.few, t.f
 
 pub connections_cover : (f area : List ℕ) → file_verdict f ≡ Passed → Covers max_connections (connections f) area
 connections_cover f area h = let t = (accepted_iff f).0 h in omega (arith, t.few)
-
--- an area read into numbers for its front: the front
-pub reads_front : (k : ℕ) (bytes a : List ℕ) → length a ≡ front_length k bytes → over (numbers_of bytes) a ≡ take k (numbers_of bytes)
-reads_front k bytes a h =
-    let l : length a ≤ length (numbers_of bytes) = omega (arith, length_numbers bytes) in
-    over_take (numbers_of bytes) a l ∙ front_read k bytes (length a) h
 
 -- of the numbers a, no more than the first i have changed
 pub record Changed (i : ℕ) (a a' : List ℕ) : Type 0 where
@@ -51,23 +45,16 @@ part_whole k i bytes a a' e c b =
     ∙ ap (drop i) (take-append-drop k ns) in
     ap (λ (x : List ℕ). over_bytes x bytes) (sym (take-append-le i a' rest l)) ∙ changed_written i (a' ++ rest) bytes p b
 
-module _ {k m : ℕ} {first second a₀ b₀ : List ℕ} (fits : FrontsFit k m first second a₀ b₀) where
-  module _ {a b : List ℕ} (read : ReadBoth first second a₀ b₀ a b) where
-    -- the fronts stand in a and b
-    pub first_front : a ≡ take k (numbers_of first)
-    first_front = read.first_read ∙ reads_front k first a₀ fits.first_fits
+-- the fronts of both areas read into a and b
+module _ {k m : ℕ} {first second a b : List ℕ} (read : ReadBoth k m first second a b) where
+  pub both_front : lent a b ≡ fronts (lent_bytes first second) k m
+  both_front = ap₂ lent read.first_read read.second_read
 
-    pub second_front : b ≡ take m (numbers_of second)
-    second_front = read.second_read ∙ reads_front m second b₀ fits.second_fits
+  -- what has changed of the fronts, written back, leaves what the fronts leave with the rest of the areas behind them
+  pub first_whole : Bytes first → {i : ℕ} {a' first' : List ℕ} → Changed i a a' → first' ≡ over_bytes (take i a') first
+      → first' ≡ over_bytes (a' ++ drop k (numbers_of first)) first
+  first_whole p {i} {a'} c e = e ∙ part_whole k i first a a' read.first_read c p
 
-    pub both_front : lent a b ≡ fronts (lent_bytes first second) k m
-    both_front = ap₂ lent first_front second_front
-
-    -- what has changed of the fronts, written back, leaves what the fronts leave with the rest of the areas behind them
-    pub first_whole : Bytes first → {i : ℕ} {a' first' : List ℕ} → Changed i a a' → first' ≡ over_bytes (take i a') first
-        → first' ≡ over_bytes (a' ++ drop k (numbers_of first)) first
-    first_whole p {i} {a'} c e = e ∙ part_whole k i first a a' first_front c p
-
-    pub second_whole : Bytes second → {i : ℕ} {b' second' : List ℕ} → Changed i b b' → second' ≡ over_bytes (take i b') second
-        → second' ≡ over_bytes (b' ++ drop m (numbers_of second)) second
-    second_whole p {i} {b'} c e = e ∙ part_whole m i second b b' second_front c p
+  pub second_whole : Bytes second → {i : ℕ} {b' second' : List ℕ} → Changed i b b' → second' ≡ over_bytes (take i b') second
+      → second' ≡ over_bytes (b' ++ drop m (numbers_of second)) second
+  second_whole p {i} {b'} c e = e ∙ part_whole m i second b b' read.second_read c p

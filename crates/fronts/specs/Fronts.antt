@@ -1,29 +1,20 @@
 -- The fronts of areas of bytes: the numbers that an operation can need of them. Assumes nothing.
-use Rattle.std.specs.Prelude.{◌≡◌, Bool, cond, List, ℕ, ◌/◌, min, length}
-use Rattle.numbers.specs.Numbers.{numbers_of, over, over_bytes}
+use Rattle.std.specs.Prelude.{◌≡◌, Bool, cond, List, ℕ, take}
+use Rattle.numbers.specs.Numbers.{numbers_of, over_bytes}
 use Rattle.model.specs.Day.{Areas, lent}
 
 -- the areas of numbers that two areas of bytes are
 abbrev pub lent_bytes : List ℕ → List ℕ → Areas
 lent_bytes notices graph = lent (numbers_of notices) (numbers_of graph)
 
--- how many numbers the front of an area of bytes has: all of them, and no more than `most`
-abbrev pub front_length : ℕ → List ℕ → ℕ
-front_length most bytes = min most (length bytes / 2)
-
 -- how many numbers of an area are written back: all that it states, or none
 abbrev pub writes : Bool → ℕ → ℕ
 writes any stated = cond any stated 0
 
--- numbers for the fronts of two areas, of at most k and m numbers: as many as these have
-pub record FrontsFit (k m : ℕ) (first second a b : List ℕ) : Type 0 where
-  pub first_fits : length a ≡ front_length k first
-  pub second_fits : length b ≡ front_length m second
-
--- two areas read into a and b, which held a₀ and b₀
-pub record ReadBoth (first second a₀ b₀ a b : List ℕ) : Type 0 where
-  pub first_read : a ≡ over (numbers_of first) a₀
-  pub second_read : b ≡ over (numbers_of second) b₀
+-- a and b are the fronts of two areas, of at most k and m numbers
+pub record ReadBoth (k m : ℕ) (first second a b : List ℕ) : Type 0 where
+  pub first_read : a ≡ take k (numbers_of first)
+  pub second_read : b ≡ take m (numbers_of second)
 
 -- the numbers of a and b written over two areas, which held first₀ and second₀
 pub record WrittenBoth (a b first₀ second₀ first second : List ℕ) : Type 0 where

@@ -1,25 +1,33 @@
-// The fronts of areas of bytes: as many numbers as an operation can need of two areas, read into numbers that the caller lends
-// and written back.
+// The fronts of areas of bytes: as many numbers as an operation can need of an area, read into numbers that the caller lends and
+// written back.
 #![tactic(auto)]
 
-ghost use Rattle.std.specs.Prelude.{◌≡◌, ◌/◌, min};
+ghost use Rattle.std.specs.Prelude.{◌≡◌, length, take};
+ghost use Rattle.numbers.specs.Numbers.{numbers_of};
 ghost use Rattle.fronts.specs.Fronts.{ReadBoth, WrittenBoth};
 
-// How many numbers the front of an area of `bytes` bytes has.
-pub fn front_length(most: usize, bytes: usize) -> usize
-    ensures { result ≡ min most (bytes / 2) }
+// The front of an area: all of its numbers, and no more than are lent.
+pub fn read<'a>(bytes: &[u8], lent: &'a mut [u16]) -> &'a mut [u16]
+    ensures { result.now ≡ take (length lent.old) (numbers_of bytes.now) }
 {
-    let n = bytes / 2;
-    if most < n { most } else { n }
+    let n = (bytes.len() / 2).min(lent.len());
+    let front = &mut lent[..n];
+    numbers::read_area(bytes, front);
+    front
 }
 
-// Two areas into numbers.
-pub fn read_both(first: &[u8], second: &[u8], a: &mut [u16], b: &mut [u16])
-    ensures { ReadBoth first.now second.now a.old b.old
-        a.new b.new }
+// The fronts of two areas.
+pub fn read_both<'a, 'b>(
+    first: &[u8],
+    second: &[u8],
+    a: &'a mut [u16],
+    b: &'b mut [u16],
+) -> (&'a mut [u16], &'b mut [u16])
+    ensures { ReadBoth (length a.old) (length b.old) first.now second.now result.0.now result.1.now }
 {
-    numbers::read_area(first, a);
-    numbers::read_area(second, b);
+    let a = read(first, a);
+    let b = read(second, b);
+    (a, b)
 }
 
 // Numbers back into two areas.

@@ -8,21 +8,15 @@ use native.Mathlib.Omega.{arith}
 use borrow.Author.Tests.{leb-true, le-leb, eq-eqb, ne_eqb, eqb-true}
 use lib.Dec.{leb, eqb}
 use lib.ListN.{length, get_or, take, drop, length-take, length-drop, take-append-drop, drop_of_length-le}
-use lib.Seq.{take_all, drop-cons}
+use lib.Seq.{drop-cons}
 use Rattle.decimals.specs.Bytes.{digit_zero, digit_nine}
 use Rattle.decimals.specs.Decimal.{max_digits, max_number, is_digit, all_digits, value_after, value_of, decimal}
-use Rattle.decimals.specs.declared.Number.TheVariants.{Is, Unread}
+use Rattle.std.proofs.Common.{Some, None}
+use Rattle.std.proofs.lemmas.Option.{cond_some}
 use Rattle.timetable.proofs.Tests.{by_lt, by_bool, not_both, and_left, and_right, and_both, or_cases, or_left, or_right}
 use Rattle.cuts.specs.Cut.{has}
 use Rattle.gtfs.specs.Clock.{colon, hour_minutes, digit_five, clock_end, is_clock_end, minute_of, time_of, time_text}
 use Rattle.cuts.proofs.Cut.{has_at, has_append, digits_without}
-
--- the digits of the minute in six bytes that are :MM:00
-pub record MinuteDigits (w : List ℕ) : Type 0 where
-  pub tens_from : digit_zero ≤ get_or w 1 0
-  pub tens_to : get_or w 1 0 ≤ digit_five
-  pub ones_from : digit_zero ≤ get_or w 2 0
-  pub ones_to : get_or w 2 0 ≤ digit_nine
 
 -- each of seven tests
 seven : (a b c d e f g : Bool) → a && b && c && d && e && f && g ≡ true
@@ -70,27 +64,13 @@ passes w h = seven
     (eqb (get_or w 5 0) digit_zero)
     h
 
-pub minute_digits : (w : List ℕ) → is_clock_end w ≡ true → MinuteDigits w
-minute_digits w h =
-    let t = passes w h in
-    record {
-      tens_from = digit_from (get_or w 1 0) t.1;
-      tens_to = leb-true (get_or w 1 0) digit_five t.2;
-      ones_from = digit_from (get_or w 2 0) t.3;
-      ones_to = digit_to (get_or w 2 0) t.3;
-    }
-
 -- the minute by its digits
 pub minute_value : (w : List ℕ) → 3 ≤ length w → minute_of w ≡ 10 * (get_or w 1 0 - digit_zero) + (get_or w 2 0 - digit_zero)
 unfolding value_after
 minute_value w h = rw (drop-cons w 1 0 (omega arith), drop-cons w 2 0 (omega arith)) (omega arith)
 
--- a minute is below 60
-pub minute_below : (w : List ℕ) → 3 ≤ length w → is_clock_end w ≡ true → minute_of w < hour_minutes
-minute_below w h e = omega (arith, minute_value w h, minute_digits w e)
-
 -- a word of another length is no time
-pub time_length : (w : List ℕ) → (length w ≡ 7 → ⊥) → (length w ≡ 8 → ⊥) → time_of w ≡ Unread
+pub time_length : (w : List ℕ) → (length w ≡ 7 → ⊥) → (length w ≡ 8 → ⊥) → time_of w ≡ None
 unfolding time_of
 time_length w h g = rw (ne_eqb (length w) 7 h, ne_eqb (length w) 8 g)
 
@@ -101,12 +81,8 @@ hours_in w = take (length w - clock_end) w
 abbrev pub end_in : List ℕ → List ℕ
 end_in w = drop (length w - clock_end) w
 
--- the rest as a part
-pub end_part : (w : List ℕ) → take (length w - (length w - clock_end)) (end_in w) ≡ end_in w
-end_part w = take_all (length w - (length w - clock_end)) (end_in w) (omega (arith, length-drop (length w - clock_end) w))
-
 -- a word that does not end in :MM:00 is no time
-pub time_endless : (w : List ℕ) → is_clock_end (end_in w) ≡ false → time_of w ≡ Unread
+pub time_endless : (w : List ℕ) → is_clock_end (end_in w) ≡ false → time_of w ≡ None
 unfolding time_of
 time_endless w h = rw (h, and-false)
 
@@ -124,7 +100,7 @@ hours_below (a ∷ b ∷ []) l h =
 hours_below (a ∷ b ∷ c ∷ s) l h = absurd (omega arith)
 
 -- one or two bytes are a number if they are digits
-hours_decimal : (s : List ℕ) → 1 ≤ length s → length s ≤ 2 → decimal s ≡ cond (all_digits s) (Is (value_of s)) Unread
+hours_decimal : (s : List ℕ) → 1 ≤ length s → length s ≤ 2 → decimal s ≡ cond (all_digits s) (Some (value_of s)) None
 unfolding decimal
 hours_decimal s l m =
     ⊎_elim
@@ -139,11 +115,7 @@ hours_decimal s l m =
     (by_bool (all_digits s))
 
 -- which way a test went
-went_true : (b : Bool) (v h : ℕ) → cond b (Is v) Unread ≡ Is h → (b ≡ true) × (v ≡ h)
-went_true true v h e = (refl, cc)
-went_true false v h e = (cc, cc)
-
-went_false : (b : Bool) (v : ℕ) → cond b (Is v) Unread ≡ Unread → b ≡ false
+went_false : (b : Bool) (v : ℕ) → cond b (Some v) None ≡ None → b ≡ false
 went_false true v e = cc
 went_false false v e = refl
 
@@ -155,28 +127,28 @@ module _ (w : List ℕ) (l : 7 ≤ length w) (m : length w ≤ 8) where
       (λ h. or_right (eqb (length w) 7) (eqb (length w) 8) (eq-eqb (length w) 8 (omega arith)))
       (by_lt (length w) 8)
 
-  read_hours : decimal (hours_in w) ≡ cond (all_digits (hours_in w)) (Is (value_of (hours_in w))) Unread
+  read_hours : decimal (hours_in w) ≡ cond (all_digits (hours_in w)) (Some (value_of (hours_in w))) None
   read_hours =
       let e = length-take (length w - clock_end) w in
       hours_decimal (hours_in w) (omega arith) (omega arith)
 
   -- the hours are those digits, and below 100
-  hours_are : (h : ℕ) → decimal (hours_in w) ≡ Is h → (all_digits (hours_in w) ≡ true) × (value_of (hours_in w) ≡ h)
-  hours_are h d = went_true (all_digits (hours_in w)) (value_of (hours_in w)) h (sym read_hours ∙ d)
+  hours_are : (h : ℕ) → decimal (hours_in w) ≡ Some h → (all_digits (hours_in w) ≡ true) × (value_of (hours_in w) ≡ h)
+  hours_are h d = cond_some (all_digits (hours_in w)) (value_of (hours_in w)) h (sym read_hours ∙ d)
 
-  pub hours_few : (h : ℕ) → decimal (hours_in w) ≡ Is h → h < 100
+  pub hours_few : (h : ℕ) → decimal (hours_in w) ≡ Some h → h < 100
   hours_few h d =
       let e = length-take (length w - clock_end) w in
       let t = hours_are h d in
       omega (arith, hours_below (hours_in w) (omega arith) t.0, t.1)
 
   -- a word whose hours are no number is no time
-  pub time_hourless : decimal (hours_in w) ≡ Unread → time_of w ≡ Unread
+  pub time_hourless : decimal (hours_in w) ≡ None → time_of w ≡ None
   unfolding time_of
   time_hourless d = rw (length_fits, went_false (all_digits (hours_in w)) (value_of (hours_in w)) (sym read_hours ∙ d))
 
   -- a word of hours and :MM:00 is the time of its hours and its minute
-  pub time_is : (h : ℕ) → is_clock_end (end_in w) ≡ true → decimal (hours_in w) ≡ Is h → time_of w ≡ Is (hour_minutes * h + minute_of (end_in w))
+  pub time_is : (h : ℕ) → is_clock_end (end_in w) ≡ true → decimal (hours_in w) ≡ Some h → time_of w ≡ Some (hour_minutes * h + minute_of (end_in w))
   unfolding time_of
   time_is h e d =
       let t = hours_are h d in
@@ -193,7 +165,7 @@ pub length_time : (t : ℕ) → length (time_text t) ≡ 8
 length_time t = rw (time_bytes t)
 
 -- a time with hours of two digits, written and read, is itself
-pub time_read : (t : ℕ) → t < 6000 → time_of (time_text t) ≡ Is t
+pub time_read : (t : ℕ) → t < 6000 → time_of (time_text t) ≡ Some t
 unfolding time_of is_clock_end all_digits value_after
 time_read t h =
     let a = t / hour_minutes / 10 in
@@ -208,7 +180,7 @@ time_read t h =
       le-leb (digit_zero + c) digit_five (omega arith),
       digit_byte (digit_zero + d) (omega arith) (omega arith),
     )
-    (ap Is (omega arith))
+    (ap Some (omega arith))
 
 -- a byte that is neither a digit nor a colon
 module _ (byte : ℕ) (n : is_digit byte ≡ false) (m : byte ≡ colon → ⊥) where
@@ -243,14 +215,14 @@ module _ (byte : ℕ) (n : is_digit byte ≡ false) (m : byte ≡ colon → ⊥)
       )
 
   -- and so is a word that is read as a time
-  pub clock_without : (w : List ℕ) (t : ℕ) → time_of w ≡ Is t → has byte w ≡ false
+  pub clock_without : (w : List ℕ) (t : ℕ) → time_of w ≡ Some t → has byte w ≡ false
   unfolding time_of
   clock_without w t r =
       let hours = hours_in w in
       let end = end_in w in
       let fits = eqb (length w) 7 || eqb (length w) 8 in
       let both = fits && all_digits hours in
-      let passed = (went_true (both && is_clock_end end) (hour_minutes * value_of hours + minute_of end) t r).0 in
+      let passed = (cond_some (both && is_clock_end end) (hour_minutes * value_of hours + minute_of end) t r).0 in
       let first = and_left both (is_clock_end end) passed in
       let long : clock_end ≤ length w =
       ⊎_elim

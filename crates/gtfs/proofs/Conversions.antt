@@ -7,15 +7,13 @@ use native.Mathlib.Omega.{arith}
 use borrow.Author.Tests.{lt-ltb, le-ltb}
 use lib.ListN.{length, take, drop}
 use lib.Seq.{take_at}
-use Rattle.timetable.specs.Answers.{accepted, refused, or_else, answering}
-use Rattle.timetable.specs.declared.Verdict.{Verdict}
-use Rattle.timetable.specs.declared.Verdict.TheVariants.{Passed, Refused}
+use Rattle.refusals.specs.Answers.{accepted, refused, or_else, answering, Verdict, Passed, Refused, told}
 use Rattle.timetable.proofs.Tests.{below}
 use Rattle.timetable.proofs.Order.{else_passed, rule}
-use Rattle.gtfs.specs.declared.Converted.{Converted}
-use Rattle.gtfs.specs.declared.Converted.TheVariants as C
-use Rattle.gtfs.specs.RefusalNumber as refusal
-use Rattle.gtfs.specs.Conversions.{Conversion, conversion, written, room_verdict, converted, told_bytes}
+use Rattle.std.specs.Prelude.{Result, Ok, Err}
+use Rattle.refusals.specs.declared.Refusal.{Refusal}
+use Rattle.refusals.specs.RefusalNumber as refusal
+use Rattle.gtfs.specs.Conversions.{Conversion, conversion, written, room_verdict, converted}
 
 module _ {v : Verdict} (bytes output : List ℕ) where
   pub converted_refused : {n p : ℕ} → v ≡ Refused n p → conversion (refused n p) output ≡ converted v bytes output
@@ -65,7 +63,7 @@ module _ (verdict : Verdict) (bytes output : List ℕ) (n : ℕ) (e : (converted
       omega arith
 
 -- the same of an answer in code
-pub converted_fits : (v : Verdict) (bytes output : List ℕ) {after : List ℕ} {r : Converted}
-    → conversion (told_bytes r) after ≡ converted v bytes output → (n : ℕ) → r ≡ C.Bytes n → n ≤ length output
+pub converted_fits : (v : Verdict) (bytes output : List ℕ) {after : List ℕ} {r : Result ℕ (Refusal ℕ)}
+    → conversion (told r) after ≡ converted v bytes output → (n : ℕ) → r ≡ Ok n → n ≤ length output
 converted_fits v bytes output {after} {r} e n d =
     accepted_fits v bytes output n (sym (ap (λ (c : Conversion). c.answer) e) ∙ rw d)

@@ -5,24 +5,24 @@ use Prim.Native.Nat.{ℕ, ◌≤◌, ◌<◌}
 use native.Mathlib.Omega.{arith}
 use borrow.Author.Tests.{le-leb, lt-leb, le-ltb, lt-ltb}
 use lib.ListN.{length}
+use Rattle.refusals.specs.RefusalNumber as refusal
 use Rattle.numbers.specs.Numbers.{numbers_of}
-use Rattle.timetable.specs.RefusalNumber as timetable
 use Rattle.timetable.specs.Check.{max_stops, max_connections, file_verdict}
-use Rattle.timetable.specs.declared.Verdict.TheVariants.{Passed, Refused}
+use Rattle.refusals.specs.Answers.{Passed, Refused}
 use Rattle.timetable.proofs.Order.{or_passed}
 use Rattle.gtfs.specs.Feed.{text_verdict}
 use Rattle.gtfs.specs.Conversions.{counts_verdict, text_connections, imported_file, import_verdict}
 
 -- how many stops and connections
 module _ (stops connections : ℕ) where
-  pub no_stops : stops < 1 → counts_verdict stops connections ≡ Refused timetable.wrong_stop_count 0
+  pub no_stops : stops < 1 → counts_verdict stops connections ≡ Refused refusal.wrong_stop_count 0
   no_stops h = rw (lt-leb 1 stops h)
 
-  pub many_stops : max_stops < stops → counts_verdict stops connections ≡ Refused timetable.wrong_stop_count 0
+  pub many_stops : max_stops < stops → counts_verdict stops connections ≡ Refused refusal.wrong_stop_count 0
   many_stops h = rw (le-leb 1 stops (omega arith), lt-leb stops max_stops h)
 
   module _ (some : 1 ≤ stops) (few : stops ≤ max_stops) where
-    pub many_connections : max_connections < connections → counts_verdict stops connections ≡ Refused timetable.wrong_connection_count 0
+    pub many_connections : max_connections < connections → counts_verdict stops connections ≡ Refused refusal.wrong_connection_count 0
     many_connections h = rw (le-leb 1 stops some, le-leb stops max_stops few, lt-ltb max_connections connections h)
 
     pub counts_pass : connections ≤ max_connections → counts_verdict stops connections ≡ Passed

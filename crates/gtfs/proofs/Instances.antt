@@ -10,11 +10,9 @@ use lib.ListN.{replicate}
 use Rattle.decimals.specs.Bytes.{newline}
 use Rattle.decimals.specs.Decimal.{all_digits, value_after, decimal, last_digits, decimal_of}
 use Rattle.numbers.specs.Numbers.{numbers_of, bytes_of}
-use Rattle.timetable.specs.Answers.{accepted, refused, first_below}
+use Rattle.refusals.specs.Answers.{accepted, refused, first_below, Verdict, Passed, Refused}
 use Rattle.timetable.specs.File.{transfer_time, trip, from, to, scheduled_departure, scheduled_arrival, stays_aboard}
 use Rattle.timetable.specs.Check.{header_verdict, stop_verdict, wrong_stops, wrong_trip, wrong_times, wrong_join, connection_verdict, file_verdict}
-use Rattle.timetable.specs.declared.Verdict.{Verdict}
-use Rattle.timetable.specs.declared.Verdict.TheVariants.{Passed, Refused}
 use Rattle.cuts.specs.Cut.{before, after, starts_with}
 use Rattle.gtfs.specs.Clock.{is_clock_end, time_of, time_text}
 use Rattle.gtfs.specs.StopTimes.{row_of, row_text}

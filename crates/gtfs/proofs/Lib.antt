@@ -1,4 +1,5 @@
 pub mod Clock
+pub mod ClockBytes
 pub mod Conversions
 pub mod FileNumbers
 pub mod Files

@@ -3,12 +3,13 @@ use mathlib.Core.Path.{◌≡◌}
 use mathlib.Core.Bool.{true, not, ◌&&◌}
 use mathlib.Core.List.{List, ◌∷◌}
 use Prim.Native.Nat.{ℕ, suc}
+use Rattle.std.proofs.Common.{is_some}
 use Rattle.decimals.specs.Bytes.{newline}
-use Rattle.timetable.specs.Answers.{refuse_if, or_else}
+use Rattle.refusals.specs.Answers.{refuse_if, or_else}
 use Rattle.cuts.specs.Cut.{has, before, after, lines_of}
 use Rattle.cuts.proofs.Cut.{lines_cut, lines_some}
-use Rattle.gtfs.specs.RefusalNumber as refusal
-use Rattle.gtfs.specs.StopTimes.{row_of, is_row, row_in}
+use Rattle.refusals.specs.RefusalNumber as refusal
+use Rattle.gtfs.specs.StopTimes.{row_of, row_in}
 use Rattle.gtfs.specs.Feed.{may_follow, lines_verdict, rows_in}
 
 module _ (t : List ℕ) (ended : has newline t ≡ true) where
@@ -17,8 +18,8 @@ module _ (t : List ℕ) (ended : has newline t ≡ true) where
       → lines_verdict k trips sequence (lines_of t)
       ≡ or_else
       (refuse_if
-      (not (is_row (row_of (before newline t)) && may_follow trips sequence (row_in (row_of (before newline t)))))
-      refusal.wrong_row
+      (not (is_some (row_of (before newline t)) && may_follow trips sequence (row_in (row_of (before newline t)))))
+      refusal.wrong_text_row
       k)
       (lines_verdict (suc k) (suc (row_in (row_of (before newline t))).trip) (row_in (row_of (before newline t))).sequence
       (lines_of (after newline t)))

@@ -7,11 +7,11 @@ use native.Mathlib.Omega.{arith}
 use Rattle.decimals.specs.Bytes.{newline}
 use Rattle.decimals.specs.Decimal.{max_number, is_digit, decimal_of}
 use Rattle.decimals.proofs.Digits.{digits_only, decimal_read}
-use Rattle.timetable.specs.declared.Verdict.TheVariants.{Passed}
+use Rattle.refusals.specs.Answers.{Passed}
 use Rattle.cuts.specs.Cut.{has, pieces, lines_of}
 use Rattle.cuts.proofs.Cut.{before_end, after_end, has_append, digits_without, line_more}
 use Rattle.gtfs.specs.declared.StopTime.{StopTime}
-use Rattle.gtfs.specs.declared.Row.TheVariants.{Reads}
+use Rattle.std.proofs.Common.{Some}
 use Rattle.gtfs.specs.Clock.{colon, time_text}
 use Rattle.gtfs.specs.StopTimes.{comma, row_of, row_text}
 use Rattle.gtfs.specs.Feed.{may_follow, lines_verdict, rows_in}
@@ -65,7 +65,7 @@ module _ (row : StopTime) (h : RowFits row) where
     departure_without = time_without byte row.departure h.departure_fits d c
 
   -- a row written is read again
-  pub row_read : row_of (row_line row) ≡ Reads row
+  pub row_read : row_of (row_line row) ≡ Some row
   unfolding row_of row_line
   row_read =
       let line3 = decimal_of row.stop ++ comma ∷ decimal_of row.sequence in

@@ -1,9 +1,7 @@
 -- Times of day in a text: H:MM:00 or HH:MM:00, hours past 24 among them. A time is in minutes. Assumes nothing.
-use Rattle.std.specs.Prelude.{Bool, cond, ◌&&◌, ◌||◌, List, [], ◌∷◌, ◌++◌, ℕ, ◌+◌, ◌*◌, ◌-◌, ◌/◌, ◌%◌, leb, eqb, length, get_or, take, drop}
+use Rattle.std.specs.Prelude.{Bool, cond, Option, Some, None, ◌&&◌, ◌||◌, List, [], ◌∷◌, ◌++◌, ℕ, ◌+◌, ◌*◌, ◌-◌, ◌/◌, ◌%◌, leb, eqb, length, get_or, take, drop}
 use Rattle.decimals.specs.Bytes.{digit_zero}
 use Rattle.decimals.specs.Decimal.{is_digit, all_digits, value_of}
-use Rattle.decimals.specs.declared.Number.{Number}
-use Rattle.decimals.specs.declared.Number.TheVariants.{Is, Unread}
 
 -- what stands between hours, minutes and seconds
 abbrev pub colon : ℕ
@@ -32,13 +30,13 @@ abbrev pub minute_of : List ℕ → ℕ
 minute_of w = value_of (take 2 (drop 1 w))
 
 -- a word as a time: one or two digits of hours, then six bytes of minutes and seconds
-unfoldable pub time_of : List ℕ → Number
+unfoldable pub time_of : List ℕ → Option ℕ
 time_of w =
     let hours = take (length w - clock_end) w in
     let end = drop (length w - clock_end) w in
     cond ((eqb (length w) (1 + clock_end) || eqb (length w) (2 + clock_end)) && all_digits hours && is_clock_end end)
-    (Is (hour_minutes * value_of hours + minute_of end))
-    Unread
+    (Some (hour_minutes * value_of hours + minute_of end))
+    None
 
 -- a number below 100 in two digits
 abbrev pub two_digits : ℕ → List ℕ

@@ -1,14 +1,9 @@
 -- Import and export: what each answers and what it leaves in the output area. Assumes nothing.
 use Rattle.std.specs.Prelude.{not, ◌&&◌, List, [], ◌∷◌, ◌++◌, ℕ, ltb, leb, length, drop}
 use Rattle.numbers.specs.Numbers.{numbers_of}
-use Rattle.timetable.specs.Answers.{Answer, accepted, refused, refuse_if, or_else, first_refusal, answering}
-use Rattle.timetable.specs.RefusalNumber as timetable
+use Rattle.refusals.specs.Answers.{Answer, accepted, refused, refuse_if, or_else, first_refusal, answering, Verdict, Passed, Refused}
 use Rattle.timetable.specs.Check.{max_stops, max_connections, file_verdict}
-use Rattle.timetable.specs.declared.Verdict.{Verdict}
-use Rattle.timetable.specs.declared.Verdict.TheVariants.{Passed, Refused}
-use Rattle.gtfs.specs.declared.Converted.{Converted}
-use Rattle.gtfs.specs.declared.Converted.TheVariants as C
-use Rattle.gtfs.specs.RefusalNumber as refusal
+use Rattle.refusals.specs.RefusalNumber as refusal
 use Rattle.gtfs.specs.Feed.{Connection, rows_of, connections_of, text_verdict}
 use Rattle.gtfs.specs.Files.{file_of}
 use Rattle.gtfs.specs.Rows.{text_of}
@@ -39,8 +34,8 @@ converted verdict bytes output =
 -- 4 and 5: how many stops and connections, also past 16 bits
 abbrev pub counts_verdict : ℕ → ℕ → Verdict
 counts_verdict stops connections =
-    or_else (refuse_if (not (leb 1 stops && leb stops max_stops)) timetable.wrong_stop_count 0)
-    (refuse_if (ltb max_connections connections) timetable.wrong_connection_count 0)
+    or_else (refuse_if (not (leb 1 stops && leb stops max_stops)) refusal.wrong_stop_count 0)
+    (refuse_if (ltb max_connections connections) refusal.wrong_connection_count 0)
 
 -- the connections of a text, and its file with the transfer times of an area of bytes
 abbrev pub text_connections : List ℕ → List Connection
@@ -65,8 +60,3 @@ imported text change output = converted (import_verdict text change) (imported_f
 -- the text of a file into an output area
 unfoldable pub exported : List ℕ → List ℕ → Conversion
 exported f output = converted (file_verdict f) (text_of f) output
-
--- document 02's values and numbers of an answer
-abbrev pub told_bytes : Converted → Answer ℕ
-told_bytes (C.Bytes n) = accepted n
-told_bytes (C.Refused n p) = refused n p

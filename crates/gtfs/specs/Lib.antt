@@ -1,4 +1,3 @@
-pub mod RefusalNumber
 pub mod Clock
 pub mod StopTimes
 pub mod Feed

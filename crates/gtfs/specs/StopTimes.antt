@@ -1,13 +1,9 @@
 -- The rows of stop_times.txt: a line read as one, and one written as a line. Assumes nothing.
-use Rattle.std.specs.Prelude.{Bool, true, false, cond, ◌&&◌, List, [], ◌∷◌, ◌++◌, ℕ}
+use Rattle.std.specs.Prelude.{cond, Option, Some, None, is_some, unwrap_or, ◌&&◌, List, [], ◌∷◌, ◌++◌, ℕ}
 use Rattle.decimals.specs.Bytes.{newline}
 use Rattle.decimals.specs.Decimal.{decimal, decimal_of}
-use Rattle.decimals.specs.declared.Number.{Number}
-use Rattle.decimals.specs.declared.Number.TheVariants.{Is, Unread}
 use Rattle.cuts.specs.Cut.{before, after}
 use Rattle.gtfs.specs.declared.StopTime.{StopTime}
-use Rattle.gtfs.specs.declared.Row.{Row}
-use Rattle.gtfs.specs.declared.Row.TheVariants.{Reads, Unreadable}
 use Rattle.gtfs.specs.Clock.{time_of, time_text}
 
 -- what stands between the columns of a row
@@ -23,31 +19,26 @@ header_text =
     115 ∷ 116 ∷ 111 ∷ 112 ∷ 95 ∷ 105 ∷ 100 ∷ comma ∷
     115 ∷ 116 ∷ 111 ∷ 112 ∷ 95 ∷ 115 ∷ 101 ∷ 113 ∷ 117 ∷ 101 ∷ 110 ∷ 99 ∷ 101 ∷ newline ∷ []
 
--- whether a word was read, and its number, 0 where it was not
-abbrev pub is_read : Number → Bool
-is_read (Is n) = true
-is_read Unread = false
-
-abbrev pub number_in : Number → ℕ
-number_in (Is n) = n
-number_in Unread = 0
+-- the number that was read, 0 where none was
+abbrev pub number_in : Option ℕ → ℕ
+number_in n = unwrap_or n 0
 
 -- the row of five columns, if all are read
-abbrev pub row_from : Number → Number → Number → Number → Number → Row
+abbrev pub row_from : Option ℕ → Option ℕ → Option ℕ → Option ℕ → Option ℕ → Option StopTime
 row_from trip arrival departure stop sequence =
-    cond (is_read trip && is_read arrival && is_read departure && is_read stop && is_read sequence)
-    (Reads (record {
+    cond (is_some trip && is_some arrival && is_some departure && is_some stop && is_some sequence)
+    (Some (record {
       trip = number_in trip;
       arrival = number_in arrival;
       departure = number_in departure;
       stop = number_in stop;
       sequence = number_in sequence;
     }))
-    Unreadable
+    None
 
 -- a line as a row: trip_id, arrival_time, departure_time and stop_id before a comma each, then stop_sequence. Where a column is missing,
 -- the next is no byte, and where there is one too many, a comma stands in the last: neither can be read.
-unfoldable pub row_of : List ℕ → Row
+unfoldable pub row_of : List ℕ → Option StopTime
 row_of line =
     let line1 = after comma line in
     let line2 = after comma line1 in
@@ -55,15 +46,9 @@ row_of line =
     row_from (decimal (before comma line)) (time_of (before comma line1)) (time_of (before comma line2)) (decimal (before comma line3))
     (decimal (after comma line3))
 
--- whether a line is a row
-abbrev pub is_row : Row → Bool
-is_row (Reads row) = true
-is_row Unreadable = false
-
 -- the row that a line is; of zeros where it is none
-abbrev pub row_in : Row → StopTime
-row_in (Reads row) = row
-row_in Unreadable = record { trip = 0; arrival = 0; departure = 0; stop = 0; sequence = 0 }
+abbrev pub row_in : Option StopTime → StopTime
+row_in row = unwrap_or row (record { trip = 0; arrival = 0; departure = 0; stop = 0; sequence = 0 })
 
 -- a column written, with the byte that ends it
 abbrev pub number_cell : ℕ → ℕ → List ℕ

@@ -2,7 +2,7 @@
 // file (specs/), with the laws that give them their meaning (proofs/). The code here is types and names.
 #![tactic(auto)]
 
-pub mod refusal;
+use refusals::Refusal;
 
 // What stands between the columns of a row, and what ends it: `comma` and `newline`.
 pub const COMMA: u8 = b',';
@@ -16,7 +16,7 @@ pub const HEADER_TEXT_LENGTH: usize = 58;
 pub const HOUR_MINUTES: u16 = 60;
 
 // A row of the text, in the order of its columns.
-#[derive(Clone, Copy)]
+#[derive(Clone, Copy, Debug, PartialEq, Eq)]
 pub struct StopTime {
     pub trip: u16,
     pub arrival: u16,
@@ -25,16 +25,5 @@ pub struct StopTime {
     pub sequence: u16,
 }
 
-// What a line is: a row, or none that can be read.
-#[derive(Clone, Copy)]
-pub enum Row {
-    Reads(StopTime),
-    Unreadable,
-}
-
-// The answer of an import or an export: how many bytes were written, or the refusal's number and place. Both can pass 16 bits.
-#[derive(Clone, Copy)]
-pub enum Converted {
-    Bytes(usize),
-    Refused(u16, usize),
-}
+// The answer of an import or an export: how many bytes were written, or the refusal, whose place can pass 16 bits as they can.
+pub type Converted = Result<usize, Refusal<usize>>;

@@ -9,19 +9,17 @@ use lib.Seq.{sets, length-take-le, take-append-add, take_at, drop_at}
 use Rattle.numbers.specs.Numbers.{numbers_of, bytes_of}
 use Rattle.numbers.proofs.Areas.{Bytes, length_numbers}
 use Rattle.numbers.proofs.Bytes.{length_bytes, bytes_numbers}
-use Rattle.timetable.specs.Answers.{accepted, refused, answering}
+use Rattle.refusals.specs.Answers.{accepted, refused, answering, Verdict, Passed, Refused, told, number_of}
 use Rattle.timetable.specs.File.{header_length, connection_length, file_length}
 use Rattle.timetable.specs.Check.{format_version, file_verdict}
-use Rattle.timetable.specs.declared.Verdict.{Verdict}
-use Rattle.timetable.specs.declared.Verdict.TheVariants.{Passed, Refused}
 use Rattle.decimals.proofs.Written.{sets_append}
 use Rattle.labels.proofs.Texts.{sets_front}
-use Rattle.gtfs.specs.RefusalNumber as refusal
+use Rattle.refusals.specs.RefusalNumber as refusal
 use Rattle.gtfs.specs.Feed.{Connection}
 use Rattle.gtfs.specs.Files.{mark, connection_numbers}
-use Rattle.gtfs.specs.Conversions.{conversion, converted, text_connections, imported_file, import_verdict, imported, told_bytes}
-use Rattle.gtfs.specs.declared.Converted.{Converted}
-use Rattle.gtfs.specs.declared.Converted.TheVariants as C
+use Rattle.gtfs.specs.Conversions.{conversion, converted, text_connections, imported_file, import_verdict, imported}
+use Rattle.std.specs.Prelude.{Result, Ok, Err}
+use Rattle.refusals.specs.declared.Refusal.{Refusal}
 use Rattle.gtfs.proofs.Files.{length_connection_numbers, file_parts}
 use Rattle.gtfs.proofs.Conversions.{converted_short, converted_done}
 use Rattle.imports.specs.Making.{Heading, heading_of, file_in, Finished, FileMade, delivered}
@@ -55,7 +53,7 @@ module _ (before after change : List ℕ) (s n : ℕ) (h : Heading change s n be
       w ∙ sets_front before (heading_of change s n) (omega arith) in
       rw (e, ← l) (take-append-add (heading_of change s n) (drop (length (heading_of change s n)) before) (connection_length * n))
 
-  pub finished : {r : Converted} → told_bytes r ≡ answering (file_verdict (take (file_length s n) after)) (file_length s n)
+  pub finished : {r : Result ℕ (Refusal ℕ)} → told r ≡ answering (file_verdict (take (file_length s n) after)) (file_length s n)
       → Finished r after before change s n
   finished e = record { told = rw (length_file_in, ← file_stands) e; stands = ap (λ (k : ℕ). take k after) length_file_in ∙ file_stands }
 
@@ -76,8 +74,8 @@ module _ (area part text change : List ℕ) (at size s n : ℕ) where
       rw (g, file_parts (numbers_of change) cs, bytes_numbers change b, ← e, ← d)
 
 -- a file that is refused, and one that the check decides of
-pub made_refused : {text change : List ℕ} (after : List ℕ) {m p : ℕ} → import_verdict text change ≡ Refused m p
-    → FileMade (C.Refused m p) after text change
+pub made_refused : {text change : List ℕ} (after : List ℕ) {r : Refusal ℕ} → import_verdict text change ≡ Refused (number_of r.0) r.1
+    → FileMade (Err r) after text change
 made_refused after e = record {
   told = rw e;
   within = λ n h. let z : ◌≡◌ {A = ℕ} 0 1 = cc in omega arith;
@@ -88,13 +86,13 @@ told_size : (v : Verdict) (n size : ℕ) → accepted n ≡ answering v size →
 told_size Passed n size e = cc
 told_size (Refused m p) n size e = cc
 
-pub made_checked : {r : Converted} {after area text change : List ℕ} {s n : ℕ} → Finished r after area change s n
+pub made_checked : {r : Result ℕ (Refusal ℕ)} {after area text change : List ℕ} {s n : ℕ} → Finished r after area change s n
     → file_in area change s n ≡ imported_file text change → import_verdict text change ≡ file_verdict (imported_file text change)
     → FileMade r after text change
 made_checked {r} {after} {area} {text} {change} {s} {n} h e d =
-    let t : told_bytes r ≡ answering (import_verdict text change) (length (imported_file text change)) = rw (d, ← e) h.told in
+    let t : told r ≡ answering (import_verdict text change) (length (imported_file text change)) = rw (d, ← e) h.told in
     let f : take (length (imported_file text change)) after ≡ imported_file text change = rw (← e) h.stands in
-    let size : (k : ℕ) → r ≡ C.Bytes k → k ≡ length (imported_file text change) =
+    let size : (k : ℕ) → r ≡ Ok k → k ≡ length (imported_file text change) =
     λ k q. told_size (import_verdict text change) k (length (imported_file text change)) (rw q at t) in
     record {
       told = t;
@@ -104,7 +102,7 @@ made_checked {r} {after} {area} {text} {change} {s} {n} h e d =
 
 -- the first n bytes of an area, of which it has so many, into an output area that has room for them, and into one that has none
 module _ (area output : List ℕ) (n : ℕ) (h : n ≤ length area) where
-  pub delivered_whole : n ≤ length output → conversion (accepted n) (sets output 0 (take n area)) ≡ delivered (C.Bytes n) area output
+  pub delivered_whole : n ≤ length output → conversion (accepted n) (sets output 0 (take n area)) ≡ delivered (Ok n) area output
   delivered_whole k =
       let bytes : List ℕ = take n area in
       let e : length bytes ≡ n = length-take-le n area h in
@@ -112,18 +110,18 @@ module _ (area output : List ℕ) (n : ℕ) (h : n ≤ length area) where
       (ap (λ (m : ℕ). conversion (accepted m) (bytes ++ drop (length bytes) output)) (sym e)
       ∙ converted_done {v = Passed} bytes output refl (omega arith))
 
-  pub delivered_none : length output < n → conversion (refused refusal.short_output 0) output ≡ delivered (C.Bytes n) area output
+  pub delivered_none : length output < n → conversion (refused refusal.short_output 0) output ≡ delivered (Ok n) area output
   delivered_none k = converted_short {v = Passed} (take n area) output refl (omega (arith, length-take-le n area h))
 
 -- what was made is delivered as the verdict on it says
-delivered_by : (v : Verdict) (made : Converted) (bytes area output : List ℕ) → told_bytes made ≡ answering v (length bytes)
-    → ((n : ℕ) → made ≡ C.Bytes n → take n area ≡ bytes) → delivered made area output ≡ converted v bytes output
-delivered_by Passed (C.Bytes n) bytes area output e stand = rw (stand n refl)
-delivered_by Passed (C.Refused n p) bytes area output e stand = cc
-delivered_by (Refused m q) (C.Bytes n) bytes area output e stand = cc
-delivered_by (Refused m q) (C.Refused n p) bytes area output e stand = rw e
+delivered_by : (v : Verdict) (made : Result ℕ (Refusal ℕ)) (bytes area output : List ℕ) → told made ≡ answering v (length bytes)
+    → ((n : ℕ) → made ≡ Ok n → take n area ≡ bytes) → delivered made area output ≡ converted v bytes output
+delivered_by Passed (Ok n) bytes area output e stand = rw (stand n refl)
+delivered_by Passed (Err r) bytes area output e stand = cc
+delivered_by (Refused m q) (Ok n) bytes area output e stand = cc
+delivered_by (Refused m q) (Err r) bytes area output e stand = rw e
 
-pub delivered_import : {text change area : List ℕ} {made : Converted} (output : List ℕ) → FileMade made area text change
+pub delivered_import : {text change area : List ℕ} {made : Result ℕ (Refusal ℕ)} (output : List ℕ) → FileMade made area text change
     → delivered made area output ≡ imported text change output
 unfolding imported
 delivered_import {text} {change} {area} {made} output h =

@@ -1,31 +1,19 @@
 // Import: the timetable file of stop_times.txt and of each stop's transfer time.
 #![tactic(auto)]
 
-ghost use Rattle.std.specs.Prelude.{◌≡◌, ℕ, ◌≤◌, min, length};
+ghost use Rattle.std.specs.Prelude.{◌≡◌, ℕ, ◌≤◌, length, Ok};
 ghost use Rattle.std.proofs.lemmas.List.Edits.{sets};
-ghost use Rattle.timetable.specs.Check.{max_stops};
-ghost use Rattle.gtfs.specs.Conversions.{conversion, imported, told_bytes};
+ghost use Rattle.gtfs.specs.Conversions.{conversion, imported};
+ghost use Rattle.refusals.specs.Answers.{told};
 ghost use Rattle.imports.specs.Making.{file_room, Heading, heading_of, Finished, FileMade, delivered};
 
-use feeds::Rows;
 use gtfs::Converted;
-use timetable::{Checked, refusal};
+use refusals::{Reason, Refusal};
 
 // The longest file: `file_room`.
 const FILE_ROOM: usize = timetable::HEADER_LENGTH
     + 2 * timetable::MAX_STOPS
     + feeds::CONNECTIONS_ROOM;
-
-// How many stops there is room for, of so many.
-fn at_most(stops: usize) -> usize
-    ensures { result ≡ min stops max_stops }
-{
-    if timetable::MAX_STOPS < stops {
-        timetable::MAX_STOPS
-    } else {
-        stops
-    }
-}
 
 // The header of a file and its transfer times, the first s numbers of `change`, at the front of an area.
 fn put_header(change: &[u8], s: usize, n: usize, file: &mut [u8])
@@ -45,11 +33,8 @@ fn finish_file(change: &[u8], s: usize, n: usize, file: &mut [u8]) -> Converted
 {
     put_header(change, s, n, file);
     let size = timetable::HEADER_LENGTH + 2 * s + timetable::CONNECTION_LENGTH * n;
-    let checked = acceptance::check(&file[0..size]);
-    match checked {
-        Checked::Refused(number, place) => Converted::Refused(number, place as usize),
-        Checked::Accepted(_, _) => Converted::Bytes(size),
-    }
+    acceptance::check(&file[0..size])?;
+    Ok(size)
 }
 
 // The file of a text and of transfer times at the front of an area with room for the longest one, if there is one.
@@ -58,20 +43,20 @@ fn make_file(text: &[u8], change: &[u8], file: &mut [u8]) -> Converted
     ensures { FileMade result file.new text.now change.now }
 {
     let s = change.len() / 2;
-    let behind = timetable::HEADER_LENGTH + 2 * at_most(s);
+    let behind = timetable::HEADER_LENGTH + 2 * s.min(timetable::MAX_STOPS);
     let end = behind + feeds::CONNECTIONS_ROOM;
     let rows = feeds::read_rows(text, &mut file[behind..end]);
     match rows {
-        Rows::Wrong(row) => Converted::Refused(gtfs::refusal::WRONG_ROW, row),
-        Rows::Connections(n) => {
+        Err(row) => Err(Refusal(Reason::WrongTextRow, row)),
+        Ok(n) => {
             if s < 1 {
-                return Converted::Refused(refusal::WRONG_STOP_COUNT, 0);
+                return Err(Refusal(Reason::WrongStopCount, 0));
             }
             if timetable::MAX_STOPS < s {
-                return Converted::Refused(refusal::WRONG_STOP_COUNT, 0);
+                return Err(Refusal(Reason::WrongStopCount, 0));
             }
             if timetable::MAX_CONNECTIONS < n {
-                return Converted::Refused(refusal::WRONG_CONNECTION_COUNT, 0);
+                return Err(Refusal(Reason::WrongConnectionCount, 0));
             }
             finish_file(change, s, n, file)
         }
@@ -80,23 +65,21 @@ fn make_file(text: &[u8], change: &[u8], file: &mut [u8]) -> Converted
 
 // The bytes that a file was made of, if it was, into an output area.
 fn deliver(made: Converted, file: &[u8], output: &mut [u8]) -> Converted
-    requires { (n : ℕ) → made ≡ Converted.Bytes n → n ≤ length file.now }
-    ensures { conversion (told_bytes result) output.new ≡ delivered made file.now output.old }
+    requires { (n : ℕ) → made ≡ Ok n → n ≤ length file.now }
+    ensures { conversion (told result) output.new ≡ delivered made file.now output.old }
 {
-    let Converted::Bytes(n) = made else {
-        return made;
-    };
+    let n = made?;
     if output.len() < n {
-        return Converted::Refused(gtfs::refusal::SHORT_OUTPUT, 0);
+        return Err(Refusal(Reason::ShortOutput, 0));
     }
     labels::put_text(&file[0..n], output, 0);
-    Converted::Bytes(n)
+    Ok(n)
 }
 
 // The same with an area to make the file in.
 fn import_by(text: &[u8], change: &[u8], output: &mut [u8], file: &mut [u8]) -> Converted
     requires { length file.old ≡ file_room }
-    ensures { conversion (told_bytes result) output.new
+    ensures { conversion (told result) output.new
         ≡ imported text.now change.now output.old }
 {
     let made = make_file(text, change, file);
@@ -105,7 +88,7 @@ fn import_by(text: &[u8], change: &[u8], output: &mut [u8], file: &mut [u8]) -> 
 
 // The timetable file of a text and of each stop's transfer time, an area of numbers, into an output area.
 pub fn import(text: &[u8], change: &[u8], output: &mut [u8]) -> Converted
-    ensures { conversion (told_bytes result) output.new
+    ensures { conversion (told result) output.new
         ≡ imported text.now change.now output.old }
 {
     let mut file = [0u8; FILE_ROOM];

@@ -4,14 +4,16 @@ use mathlib.Core.Logic.{⊎_elim}
 use mathlib.Core.Bool.{true, false, and-false}
 use mathlib.Core.List.{List, [], ◌∷◌, ◌++◌, map, append-nil}
 use Prim.Native.Nat.{ℕ, zero, suc, ◌+◌, ◌-◌, ◌<◌, ◌≤◌, min}
-use native.Mathlib.Numerals.{add-one}
+use native.Mathlib.Nat.{zero-add}
 use native.Mathlib.Omega.{arith}
 use borrow.Author.Tests.{lt-leb, not-true}
-use lib.ListN.{length, get_or, set, take, drop, length-append, length-take, length-drop}
-use lib.Seq.{take_all, take-take, take-suc, drop-cons, set_at, append_snoc, get_or-append-add, get_or-drop}
+use lib.ListN.{length, take, drop, length-append, length-take, length-drop}
+use lib.Seq.{take_all, take-take}
+use Rattle.std.proofs.Common.{None}
+use Rattle.std.specs.List.{copy_within}
+use Rattle.std.proofs.lemmas.List.{take_min}
 use Rattle.decimals.specs.Bytes.{newline}
 use Rattle.cuts.specs.Cut.{has, on_first}
-use Rattle.meanings.specs.declared.Command.TheVariants.{Unreadable}
 use Rattle.commands.specs.Commands.{max_line, command_of}
 use Rattle.input.specs.Lines.{input_lines, plain, commands_of, held_room, HeldBack}
 use Rattle.cuts.proofs.Cut.{has_none, has_take}
@@ -19,12 +21,12 @@ use Rattle.input.proofs.Lines.{not_ended}
 use Rattle.model.proofs.ByCases.{by_lt}
 
 -- a line that is too long is no command
-pub long_unreadable : (line : List ℕ) → max_line < length line → command_of line ≡ Unreadable
+pub long_unreadable : (line : List ℕ) → max_line < length line → command_of line ≡ None
 unfolding command_of
 long_unreadable line h = rw (lt-leb (length line) max_line h)
 
 -- a line that has not ended is no command
-pub open_unreadable : (line : List ℕ) → plain line ≡ true → command_of line ≡ Unreadable
+pub open_unreadable : (line : List ℕ) → plain line ≡ true → command_of line ≡ None
 unfolding command_of
 open_unreadable line h = rw (not_ended line (not-true _ h), and-false)
 
@@ -50,7 +52,7 @@ joined b (c ∷ bs) more h = let n = has_none newline b (c ∷ bs) h in rw n.0 (
 
 -- the commands of an input whose first line has a start of more bytes than a command
 long_start : (b : ℕ) (bs more : List ℕ) → has newline (b ∷ bs) ≡ false → max_line < length (b ∷ bs)
-    → commands_of ((b ∷ bs) ++ more) ≡ Unreadable ∷ map command_of (others (input_lines more))
+    → commands_of ((b ∷ bs) ++ more) ≡ None ∷ map command_of (others (input_lines more))
 long_start b bs more h long =
     rw (joined b bs more h)
     (ap (λ x. x ∷ map command_of (others (input_lines more)))
@@ -79,53 +81,17 @@ unfolding input_lines
 last_line [] h some = absurd (omega arith)
 last_line (b ∷ bs) h some = rw (append-nil bs) at (ap (map command_of) (joined b bs [] (not-true _ h)))
 
--- the first bytes of the first bytes
-take_least : (j k : ℕ) (l : List ℕ) → take (min j k) l ≡ take j (take k l)
-take_least j k l =
-    ⊎_elim
-    (λ (h : j < k). let e : min j k ≡ j = omega arith in rw e (sym (take-take j k l (omega arith))))
-    (λ (h : k ≤ j).
-    let e : min j k ≡ k = omega arith in
-    rw e (sym (take_all j (take k l) (simp length-take (omega arith)))))
-    (by_lt j k)
-
--- a block whose first i bytes are those from a place on
-abbrev pub moved : List ℕ → ℕ → ℕ → List ℕ
-moved block at i = take i (drop at block) ++ drop i block
-
--- one byte more
-module _ (block : List ℕ) (at i : ℕ) (h : at + i < length block) where
-  front_length : length (take i (drop at block)) ≡ i
-  front_length = simp (length-take, length-drop) (omega arith)
-
-  moved_read : get_or (moved block at i) (at + i) 0 ≡ get_or block (at + i) 0
-  moved_read =
-      let e : at + i ≡ length (take i (drop at block)) + at = omega (arith, front_length) in
-      let f : i + at ≡ at + i = omega arith in
-      ap (λ (k : ℕ). get_or (moved block at i) k 0) e
-      ∙ get_or-append-add (take i (drop at block)) (drop i block) at 0
-      ∙ get_or-drop i block at 0
-      ∙ ap (λ (k : ℕ). get_or block k 0) f
-
-  pub moved_turn : set (moved block at i) i (get_or (moved block at i) (at + i) 0) ≡ moved block at (i + 1)
-  moved_turn =
-      let inside : i < length (drop at block) = simp length-drop (omega arith) in
-      rw (
-        moved_read,
-        add-one i,
-        take-suc (drop at block) i 0 inside,
-        get_or-drop at block i 0,
-        drop-cons block i 0 (omega arith),
-        set_at (take i (drop at block)) (get_or block i 0) (drop (suc i) block) (get_or block (at + i) 0) i front_length,
-      )
-      (sym (append_snoc (take i (drop at block)) (get_or block (at + i) 0) (drop (suc i) block)))
-
 -- a block whose first bytes are moved holds what is to be held of them
 pub moved_held : (block : List ℕ) (at end k : ℕ) → at ≤ end → end ≤ length block → k ≡ min held_room (end - at)
-    → HeldBack k (moved block at k) block (take (end - at) (drop at block))
-moved_held block at end k h g e = record {
-  size = rw e (simp (length-take, length-drop) (omega arith));
-  stands = ap (λ (front : List ℕ). front ++ drop k block)
-      (ap (λ (j : ℕ). take j (drop at block)) e ∙ take_least held_room (end - at) (drop at block));
-  within = simp (length-append, length-take, length-drop) (omega arith);
-}
+    → HeldBack k (copy_within block at (at + k) 0) block (take (end - at) (drop at block))
+moved_held block at end k h g e =
+    let rest = take (end - at) (drop at block) in
+    let size : length rest ≡ end - at = simp (length-take, length-drop) (omega arith) in
+    let held : take held_room rest ≡ take k (drop at block) =
+    sym (take_min held_room rest) ∙ rw (size, ← e) (take-take k (end - at) (drop at block) (omega arith)) in
+    let moved : at + k - at ≡ k = omega arith in
+    rw moved (record {
+      size = rw held (simp (length-take, length-drop) (omega arith));
+      stands = rw (held, zero-add);
+      within = rw zero-add (simp (length-append, length-take, length-drop) (omega arith));
+    })

@@ -9,18 +9,10 @@ use lib.ListN.{length, take, drop, length-append, length-take, length-drop}
 use lib.Seq.{take-add}
 use Rattle.decimals.specs.Bytes.{newline}
 use Rattle.cuts.specs.Cut.{has, before}
-use Rattle.input.specs.Lines.{input_lines, plain, whole_line, WholeLines}
+use Rattle.input.specs.Lines.{input_lines, whole_line, WholeLines}
 use Rattle.cuts.proofs.Cut.{before_cut}
 use Rattle.input.proofs.Lines.{line_alone}
 use Rattle.model.proofs.ByCases.{by_bool}
-
--- where no line has ended, there is no newline
-pub none_whole : (input : List ℕ) → length (whole_line input) ≡ 0 → plain input ≡ true
-none_whole input h =
-    ⊎_elim
-    (λ (e : has newline input ≡ true). absurd (omega (arith, simp length-append at (rw e at h))))
-    (λ (e : has newline input ≡ false). rw e)
-    (by_bool (has newline input))
 
 -- before the first line
 pub whole_none : WholeLines []

@@ -1,5 +1,5 @@
 -- The lines of an input. An input is the list of its bytes. Assumes nothing.
-use Rattle.std.specs.Prelude.{◌≡◌, Bool, cond, not, List, [], ◌∷◌, ◌++◌, map, ℕ, suc, ◌≤◌, eqb, length, take, drop}
+use Rattle.std.specs.Prelude.{◌≡◌, Bool, cond, not, Option, List, [], ◌∷◌, ◌++◌, map, ℕ, suc, ◌≤◌, eqb, length, take, drop}
 use Rattle.decimals.specs.Bytes.{newline}
 use Rattle.cuts.specs.Cut.{has, before, on_first}
 use Rattle.meanings.specs.declared.Command.{Command}
@@ -23,7 +23,7 @@ pub record WholeLines (input : List ℕ) : Type 0 where
   pub splits : (more : List ℕ) → input_lines (input ++ more) ≡ input_lines input ++ input_lines more
 
 -- the commands of an input's lines
-abbrev pub commands_of : List ℕ → List Command
+abbrev pub commands_of : List ℕ → List (Option Command)
 commands_of input = map command_of (input_lines input)
 
 -- how many bytes are held of a line that has not ended: one more than a command may have

@@ -1,22 +1,23 @@
 -- The search for the last connection of a journey: its turns, and what it ends with. Assumes nothing.
-use mathlib.Core.Path.{◌≡◌, sym, ◌∙◌}
-use mathlib.Core.Bool.{Bool, true, false, ◌&&◌}
+use mathlib.Core.Path.{◌≡◌, refl, sym, ◌∙◌}
+use mathlib.Core.Logic.{inl, inr}
+use mathlib.Core.Bool.{Bool, true, false, ◌&&◌, true≢false}
 use mathlib.Core.List.{List}
-use Prim.Native.Nat.{ℕ, ◌+◌, ◌*◌, ◌<◌, ◌≤◌}
+use Prim.Native.Nat.{ℕ, ◌+◌, ◌<◌, ◌≤◌}
 use native.Mathlib.Omega.{arith}
-use native.Mathlib.Numerals.{add-one}
 use lib.Dec.{eqb}
 use lib.ListN.{length, get_or}
+use borrow.Author.Count.{below_more}
 use borrow.Author.Tests.{lt-ltb, le-ltb}
-use Rattle.timetable.specs.File.{connections, to}
-use Rattle.timetable.specs.Room.{HasConnection}
-use Rattle.model.specs.Least.{none}
-use Rattle.model.specs.Graph.{arrival_in}
+use Rattle.std.specs.Prelude.{Option, Some, None, MatchOption}
+use Rattle.timetable.specs.File.{to}
+use Rattle.model.specs.Least.{none, key, Found, Nobody}
+use Rattle.model.specs.Network.{Network}
 use Rattle.model.specs.Predecessors.{reached_in, arriving, last_to}
-use Rattle.model.specs.Shown.{shown, Readable}
-use Rattle.model.proofs.Least.{least_range, scan_fails, scan_first, scan_wins, scan_loses, scan_done}
+use Rattle.model.specs.Shown.{shown}
+use Rattle.graph.specs.declared.Network as graph
+use Rattle.model.proofs.Least.{scan_done}
 use Rattle.model.proofs.Lists.{inside}
-use Rattle.model.proofs.Shown.{readable_room}
 use Rattle.journeys.specs.Last.{Better}
 
 -- the code's test of an entry
@@ -27,46 +28,60 @@ module _ (w : List ℕ) (c : ℕ) (h : c < length w) where
   pub test_reached : get_or w c 0 < none → reached_in w c ≡ true
   test_reached r = lt-ltb (get_or w c none) none (omega (arith, inside w c none 0 h))
 
-module _ (f graph w : List ℕ) (b : ℕ) (r : Readable f graph) where
+-- of the numbers up to c, by those below it and c
+module _ (test : ℕ → Bool) (time : ℕ → ℕ) (c : ℕ) where
+  -- nobody passes
+  nobody_more : test c ≡ false → Nobody test c → Nobody test (c + 1)
+  nobody_more q k = below_more _ _ k (λ t. true≢false (sym t ∙ q))
+
+  -- d is still the best
+  stays : (d : ℕ) → d < c → (test c ≡ true → key time d ≤ key time c) → Found test time c d → Found test time (c + 1) d
+  stays d l m k = record { below = omega arith; passes = k.passes; least = below_more _ _ k.least m }
+
+  -- c is the best
+  takes : test c ≡ true → ((e : ℕ) → e < c → test e ≡ true → key time c ≤ key time e) → Found test time (c + 1) c
+  takes q m = record { below = omega arith; passes = q; least = below_more _ _ m (λ t. omega arith) }
+
+module _ (v : graph.Network) (w : List ℕ) (b : ℕ) where
+  abbrev f : List ℕ
+  f = v.shown.timetable.file.now
+
+  abbrev net : Network
+  net = shown f v.shown.graph.now
+
+  abbrev n : ℕ
+  n = v.shown.timetable.connections
+
+  abbrev test : ℕ → Bool
+  test = arriving net w b
+
+  few : net.connections ≤ none
+  few = omega (arith, v.shown.timetable.opened.timetable.few)
+
   -- after the last turn
-  pub search_done : (best : ℕ) → Better (shown f graph) w b (connections f) best → best ≡ last_to (shown f graph) w b
+  pub search_done : (m : ℕ) → m ≡ net.connections → (best : Option ℕ) → Better net w b m best
+      → MatchOption best (last_to net w b ≡ none) (λ d. (d < none) × (d ≡ last_to net w b))
   unfolding last_to
-  search_done best k = scan_done _ _ (connections f) best (omega (arith, r.timetable.few)) k
+  search_done m q None k = sym (scan_done test net.arrival net.connections none few (inl (refl, rw q at k)))
+  search_done m q (Some d) k =
+      (omega (arith, k.below, few, q), scan_done test net.arrival net.connections d few (inr (rw q at k)))
 
   -- the turn of connection c
-  module _ (s c best : ℕ) (h : HasConnection f s c) (k : Better (shown f graph) w b c best) where
-    pub below : c < connections f
-    below = let l = r.timetable.long in let n = h.count in let m = h.room in omega arith
+  module _ (c : ℕ) (h : c < n) (p : Bool) (e : p ≡ (reached_in w c && eqb (to f c) b)) where
+    tested : arriving net w b c ≡ p
+    unfolding arriving
+    tested = sym e
 
-    -- there is room for its arrival
-    pub room_arrival : 2 * c + 1 < length graph
-    room_arrival = omega (arith, below, readable_room f graph r)
+    -- c does not end a journey at b
+    pub turn_fails : p ≡ false → (best : Option ℕ) → Better net w b c best → Better net w b (c + 1) best
+    turn_fails q None k = nobody_more test net.arrival c (tested ∙ q) k
+    turn_fails q (Some d) k = stays test net.arrival c d k.below (λ t. absurd (true≢false (sym t ∙ tested ∙ q))) k
 
-    -- and for that of the best so far
-    pub room_best : best < none → 2 * best + 1 < length graph
-    room_best l = omega (arith, below, least_range _ _ c best k l, readable_room f graph r)
-
-    module _ (p : Bool) (e : p ≡ (reached_in w c && eqb (to f c) b)) where
-      tested : arriving (shown f graph) w b c ≡ p
-      unfolding arriving
-      tested = sym e
-
-      -- c does not end a journey at b
-      pub turn_fails : p ≡ false → Better (shown f graph) w b (c + 1) best
-      turn_fails q = rw add-one (scan_fails _ _ c best (tested ∙ q) k)
-
-      few : c ≤ none
-      few = omega (arith, below, r.timetable.few)
-
+    module _ (q : p ≡ true) where
       -- c is the first that does
-      pub turn_first : p ≡ true → none ≤ best → Better (shown f graph) w b (c + 1) c
-      turn_first q l = rw add-one (scan_first _ _ c best few (tested ∙ q) l k)
+      pub turn_first : Better net w b c None → Better net w b (c + 1) (Some c)
+      turn_first k = takes test net.arrival c (tested ∙ q) (λ e l t. absurd (k e l t))
 
-      module _ (l : best < none) (x y : ℕ) (ex : x ≡ arrival_in graph c) (ey : y ≡ arrival_in graph best) where
-        -- c arrives earlier than the best so far
-        pub turn_wins : p ≡ true → x < y → Better (shown f graph) w b (c + 1) c
-        turn_wins q m = rw add-one (scan_wins _ _ c best few (tested ∙ q) l (omega (arith, ex, ey)) k)
-
-        -- it does not
-        pub turn_loses : p ≡ true → y ≤ x → Better (shown f graph) w b (c + 1) best
-        turn_loses q m = rw add-one (scan_loses _ _ c best (tested ∙ q) l (omega (arith, ex, ey)) k)
+      -- c arrives earlier than d, the best so far
+      pub turn_wins : (d : ℕ) → Better net w b c (Some d) → net.arrival c < net.arrival d → Better net w b (c + 1) (Some c)
+      turn_wins d k m = takes test net.arrival c (tested ∙ q) (λ e l t. omega (arith, k.least e l t, k.below, few, v.shown.timetable.opened.connections))

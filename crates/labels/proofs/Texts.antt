@@ -1,22 +1,23 @@
--- A text written byte by byte, and a line at the front of an area. Assumes nothing.
-use mathlib.Core.Path.{◌≡◌, ◌∙◌, ap}
-use mathlib.Core.List.{List, [], ◌∷◌, ◌++◌}
-use Prim.Native.Nat.{ℕ, ◌+◌, ◌<◌, ◌≤◌}
+-- A text copied into an area, and a line at the front of an area. Assumes nothing.
+use mathlib.Core.Path.{◌≡◌, refl, ◌∙◌, ap}
+use mathlib.Core.List.{List, ◌++◌}
+use Prim.Native.Nat.{ℕ, ◌+◌, ◌≤◌}
 use native.Mathlib.Nat.{zero-add}
-use native.Mathlib.Numerals.{add-one}
 use native.Mathlib.Omega.{arith}
-use lib.ListN.{length, get_or, take, drop, set, length-append}
-use lib.Seq.{sets, sets-eq, take-suc, length-take-le}
+use lib.ListN.{length, drop, length-append}
+use lib.Seq.{sets, sets-eq}
+use borrow.Rule.Slice.PartMut.{put_mid}
+use Rattle.std.proofs.lemmas.Grind.{common_steps}
 use Rattle.decimals.specs.Written.{Written}
-use Rattle.decimals.proofs.Written.{sets_append}
 use Rattle.labels.specs.Room.{LineIs}
 
--- one byte more of a text
-pub sets_turn : (d text : List ℕ) (at i : ℕ) → i < length text
-    → set (sets d at (take i text)) (at + i) (get_or text i 0) ≡ sets d at (take (i + 1) text)
-sets_turn d text at i h =
-    let e : length (take i text) ≡ i = length-take-le i text (omega arith) in
-    rw (add-one i, take-suc text i 0 h, ← sets_append d at (take i text) (get_or text i 0 ∷ []), e)
+-- a text copied to its place in an area
+pub text_copied : (d text copy : List ℕ) (at k : ℕ) → copy ≡ text → k ≡ length text → at + k ≤ length d
+    → Written (at + length text) (put_mid at k d copy) d at text
+text_copied d text copy at k e f h = record {
+  next = refl;
+  stands = let s = sets-eq text d at (omega arith) in grind (arith, common_steps);
+}
 
 -- a text from the front of an area on
 pub sets_front : (d s : List ℕ) → length s ≤ length d → sets d 0 s ≡ s ++ drop (length s) d

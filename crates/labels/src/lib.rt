@@ -8,17 +8,14 @@ ghost use Rattle.labels.specs.Labels.{labelled, number_line, pair_line};
 ghost use Rattle.labels.specs.Room.{LineIs};
 
 // A text into out from a place on; the place after it.
+#[tactic(auto, using(crate::proofs::Texts::text_copied))]
 pub fn put_text(text: &[u8], out: &mut [u8], at: usize) -> usize
     requires { at + length text.now ≤ length out.old }
     ensures { Written result out.new out.old at text.now }
 {
-    let n = text.len();
-    let mut i = 0;
-    while i < n {
-        out[at + i] = text[i];
-        i += 1;
-    }
-    at + n
+    let end = at + text.len();
+    out[at..end].copy_from_slice(text);
+    end
 }
 
 // A label and a number into out from a place on; the place after them.
@@ -58,6 +55,7 @@ pub fn put_pair(
 }
 
 // A line of two numbers, each with its label.
+#[tactic(auto, using(crate::proofs::Texts::line_written))]
 pub fn write_pair(label: &[u8], number: u16, second: &[u8], other: u16, out: &mut [u8]) -> usize
     requires { length (pair_line label.now number second.now other) ≤ length out.old }
     ensures { LineIs result out.new out.old (pair_line label.now number second.now other) }

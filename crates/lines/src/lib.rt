@@ -1,11 +1,12 @@
 // Answer lines written: numbers in, bytes out. A writer's line stands at the front of out, and its length is the answer.
 #![tactic(auto)]
 
-ghost use Rattle.std.specs.Prelude.{◌≡◌, ◌≤◌, nat_abs, length};
+ghost use Rattle.std.specs.Prelude.{◌≤◌, length};
 ghost use Rattle.labels.specs.Room.{line_room, LineIs};
 ghost use Rattle.lines.specs.Lines.{counts_line, posted_line, withdrawn_line, refusal_line, margin_line, why_line};
 
 // The counts of a timetable.
+#[tactic(auto, using(crate::proofs::Lengths::parts), unfolding(crate::specs::Lines::counts_line))]
 pub fn write_counts(stops: u16, connections: u16, out: &mut [u8]) -> usize
     requires { line_room ≤ length out.old }
     ensures { LineIs result out.new out.old (counts_line stops connections) }
@@ -14,6 +15,7 @@ pub fn write_counts(stops: u16, connections: u16, out: &mut [u8]) -> usize
 }
 
 // A posted notice's number.
+#[tactic(auto, using(crate::proofs::Lengths::parts), unfolding(crate::specs::Lines::posted_line))]
 pub fn write_posted(number: u16, out: &mut [u8]) -> usize
     requires { line_room ≤ length out.old }
     ensures { LineIs result out.new out.old (posted_line number) }
@@ -22,6 +24,7 @@ pub fn write_posted(number: u16, out: &mut [u8]) -> usize
 }
 
 // A withdrawn notice's number.
+#[tactic(auto, using(crate::proofs::Lengths::parts), unfolding(crate::specs::Lines::withdrawn_line))]
 pub fn write_withdrawn(number: u16, out: &mut [u8]) -> usize
     requires { line_room ≤ length out.old }
     ensures { LineIs result out.new out.old (withdrawn_line number) }
@@ -30,6 +33,7 @@ pub fn write_withdrawn(number: u16, out: &mut [u8]) -> usize
 }
 
 // A refusal's number and place.
+#[tactic(auto, using(crate::proofs::Lengths::parts), unfolding(crate::specs::Lines::refusal_line))]
 pub fn write_refusal(number: u16, place: u16, out: &mut [u8]) -> usize
     requires { line_room ≤ length out.old }
     ensures { LineIs result out.new out.old (refusal_line number place) }
@@ -37,23 +41,13 @@ pub fn write_refusal(number: u16, place: u16, out: &mut [u8]) -> usize
     labels::write_pair(b"no ", number, b" at ", place, out)
 }
 
-// The size of a signed number.
-fn size(minutes: i32) -> u32
-    ensures { result ≡ nat_abs minutes }
-{
-    if minutes < 0 {
-        (-1 - minutes) as u32 + 1
-    } else {
-        minutes as u32
-    }
-}
-
 // A margin in minutes.
+#[tactic(auto, using(crate::proofs::Lengths::parts))]
 pub fn write_margin(minutes: i32, out: &mut [u8]) -> usize
     requires { line_room ≤ length out.old }
     ensures { LineIs result out.new out.old (margin_line minutes) }
 {
-    let number = size(minutes);
+    let number = minutes.unsigned_abs();
     if minutes < 0 {
         return labels::write_number(b"margin -", number, out);
     }
@@ -61,6 +55,7 @@ pub fn write_margin(minutes: i32, out: &mut [u8]) -> usize
 }
 
 // A connection's primary delay and the notice that gives it.
+#[tactic(auto, using(crate::proofs::Lengths::parts), unfolding(crate::specs::Lines::why_line))]
 pub fn write_why(connection: u16, delay: u16, notice: u16, out: &mut [u8]) -> usize
     requires { line_room ≤ length out.old }
     ensures { LineIs result out.new out.old (why_line connection delay notice) }

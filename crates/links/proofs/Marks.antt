@@ -1,41 +1,25 @@
 -- How the link of one more board or connection keeps the marks of connections and boards, and what the check of a link has told.
 -- Assumes nothing.
 use mathlib.Core.Path.{◌≡◌, refl, sym, ◌∙◌}
-use mathlib.Core.Bool.{true, false, false≢true}
+use mathlib.Core.Bool.{true}
 use mathlib.Core.List.{List}
 use mathlib.Core.Logic.{⊎_elim}
 use Prim.Native.Nat.{ℕ, suc, ◌+◌, ◌<◌, ◌≤◌}
 use native.Mathlib.Numerals.{add-one}
 use native.Mathlib.Omega.{arith}
-use borrow.Author.Tests.{lt-ltb, le-ltb, ltb-true, eq-eqb, ne_eqb}
+use borrow.Author.Tests.{ltb-true, eq-eqb, ne_eqb}
 use lib.Dec.{ltb, eqb}
 use lib.ListN.{length, get_or, set, length-set}
 use lib.Seq.{get_or-set_same, get_or-set_other}
-use Rattle.timetable.specs.File.{connections}
 use Rattle.model.specs.Least.{none, key}
 use Rattle.model.specs.Network.{Network, Sound}
 use Rattle.model.specs.Graph.{board, departure_in, waiting_in, first_in}
-use Rattle.model.proofs.ByCases.{by_eq, same_test, one_more}
+use Rattle.model.proofs.ByCases.{by_eq, one_more}
 use Rattle.model.specs.Shown.{shown}
 use Rattle.links.specs.Links.{first_of, next_of, FirstLink, NextLink, nobody, leads, Mark, missed, first, next, Marks, Last, followed, unfollowed, Lasts}
 use Rattle.boards.specs.Timed.{Timed, board_in}
-use Rattle.boards.proofs.Opened.{departs_early}
 use Rattle.links.specs.Telling.{FirstsLinked, NextsLinked, FirstTold, NextTold}
 use Rattle.links.proofs.Telling.{told, denied}
-
--- order by time and then number
-module _ (time : ℕ → ℕ) (c d own other : ℕ) (own_is : own ≡ time c) (other-is : other ≡ time d) (small : c < none) (small' : d < none) where
-  pub later_after : own < other → true ≡ ltb (key time c) (key time d)
-  later_after h = sym (lt-ltb (key time c) (key time d) (omega arith))
-
-  pub earlier_after : other < own → false ≡ ltb (key time c) (key time d)
-  earlier_after h = sym (le-ltb (key time c) (key time d) (omega arith))
-
-  pub same_after : other ≤ own → own ≤ other → ltb c d ≡ ltb (key time c) (key time d)
-  same_after h k =
-      same_test (ltb c d) (ltb (key time c) (key time d))
-      (λ t. let l = ltb-true c d t in lt-ltb (key time c) (key time d) (omega arith))
-      (λ t. let l = ltb-true (key time c) (key time d) t in lt-ltb c d (omega arith))
 
 -- what holds of each of the n places of a list, after a store
 stored : (P Q : ℕ → ℕ → Type 0) (n : ℕ) (l : List ℕ) (i v : ℕ) → length l ≡ n → ((j : ℕ) → j < n → P j (get_or l j 0))
@@ -117,38 +101,18 @@ module _ (net : Network) (g : List ℕ) where
   next_leads (leads h b k) ne = (h, b, k)
 
 module _ {f g : List ℕ} {s n : ℕ} (given : Timed f s n g) where
-  -- none is no connection
-  connections_few : n < none
-  connections_few = omega (arith, given.sound.few, given.opened.connections)
-
-  -- one minute more than a departure fits a mark, and is not none
-  pub departure_fits : (c : ℕ) → c < n → departure_in g c + 1 < none
-  departure_fits c h = omega (arith, departs_early given c h)
-
   -- the check of board b, whose first departure is e
   module _ (b e : ℕ) (is : e ≡ first_in g n b) {marks : List ℕ} (old : FirstsLinked f g b marks) where
     reads_first : first_of (shown f g) g b ≡ e
     reads_first = rw (← given.opened.connections) (sym is)
 
-    -- there is none
-    first_none : e ≡ none → FirstTold f g b true marks
-    first_none q = told (nobody (reads_first ∙ q)) (first_unmarked (shown f g) g old given.sound (reads_first ∙ q))
-
-    module _ (some : e ≡ none → ⊥) where
-      found_first : FirstLink (shown f g) g b → (e < connections f) × (board_in f e ≡ b)
-      found_first link = rw reads_first at (first_leads (shown f g) g link (λ q. some (sym reads_first ∙ q)))
-
-      -- it is neither none nor a connection
-      first_past : n ≤ e → FirstTold f g b false marks
-      first_past h = denied (λ link. omega (arith, (found_first link).0, given.opened.connections))
-
     -- it is no connection
     pub first_off : n ≤ e → FirstTold f g b (eqb e none) marks
-    first_off h = ⊎_elim (λ q. rw (eq-eqb e none q) (first_none q)) (λ some. rw (ne_eqb e none some) (first_past some h)) (by_eq e none)
-
-    -- it is on another board
-    pub first_wrong : {after : List ℕ} → e < n → (board_in f e ≡ b → ⊥) → FirstTold f g b false after
-    first_wrong h other = denied (λ link. other (found_first (λ q. omega (arith, connections_few)) link).1)
+    first_off h =
+        ⊎_elim
+        (λ q. rw (eq-eqb e none q) (told (nobody (reads_first ∙ q)) (first_unmarked (shown f g) g old given.sound (reads_first ∙ q))))
+        (λ some. rw (ne_eqb e none some) (denied (λ link. grind (arith, reads_first, given.opened.connections))))
+        (by_eq e none)
 
     -- it is on b
     pub first_right : e < n → board_in f e ≡ b → FirstTold f g b true (set marks e 0)
@@ -169,34 +133,13 @@ module _ {f g : List ℕ} {s n : ℕ} (given : Timed f s n g) where
         told (nobody l)
         (record { marks = next_unmarked (shown f g) g old.marks given.sound l; lasts = rw (p, add-one departure, d) (next_last (shown f g) g old.lasts l) })
 
-    module _ (some : e ≡ none → ⊥) where
-      found_next : NextLink (shown f g) g c → (e < connections f) × (board_in f e ≡ board_in f c) × (key (departure_in g) c < key (departure_in g) e)
-      found_next link = rw reads_next at (next_leads (shown f g) g link (λ q. some (sym reads_next ∙ q)))
-
-      -- it is neither none nor a connection
-      pub next_past : {after done : List ℕ} → n ≤ e → NextTold f g s c false after done
-      next_past h = denied (λ link. omega (arith, (found_next link).0, given.opened.connections))
-
-    -- it is a connection
-    module _ (h : e < n) where
-      some : e ≡ none → ⊥
-      some q = omega (arith, connections_few)
-
-      -- that is on another board
-      pub next_wrong : {after done : List ℕ} → (board_in f e ≡ board_in f c → ⊥) → NextTold f g s c false after done
-      next_wrong other = denied (λ link. other (found_next some link).1)
-
-      -- that does not leave after c
-      pub next_early : {after done : List ℕ} → ltb (key (departure_in g) c) (key (departure_in g) e) ≡ false → NextTold f g s c false after done
-      next_early t = denied (λ link. false≢true (sym t ∙ lt-ltb _ _ (found_next some link).2))
-
-      -- that is on the same board and leaves after c
-      pub next_right : (departure : ℕ) → departure ≡ departure_in g c → board_in f e ≡ board_in f c → ltb (key (departure_in g) c) (key (departure_in g) e) ≡ true
-          → NextTold f g s c true (set marks e (departure + 1)) lasts
-      next_right departure d on t =
-          told
-          (leads (rw reads_next (omega (arith, given.opened.connections))) (rw reads_next on) (rw reads_next (ltb-true _ _ t)))
-          (record {
-            marks = rw (add-one departure, d) (next_marked (shown f g) g old.marks e reads_next);
-            lasts = next_followed (shown f g) g old.lasts (λ l. some (sym reads_next ∙ l));
-          })
+    -- it is a connection that is on the same board and leaves after c
+    pub next_right : e < n → (departure : ℕ) → departure ≡ departure_in g c → board_in f e ≡ board_in f c → ltb (key (departure_in g) c) (key (departure_in g) e) ≡ true
+        → NextTold f g s c true (set marks e (departure + 1)) lasts
+    next_right h departure d on t =
+        told
+        (leads (rw reads_next (omega (arith, given.opened.connections))) (rw reads_next on) (rw reads_next (ltb-true _ _ t)))
+        (record {
+          marks = rw (add-one departure, d) (next_marked (shown f g) g old.marks e reads_next);
+          lasts = next_followed (shown f g) g old.lasts (λ l. absurd (omega (arith, reads_next, given.sound.few, given.opened.connections)));
+        })

@@ -1,11 +1,13 @@
 -- What an answer tells, from one test or from a test of each number below another. Assumes nothing.
-use mathlib.Core.Path.{◌≡◌, refl, sym, ◌∙◌}
-use mathlib.Core.Bool.{Bool, true, false, not, false≢true}
-use Prim.Native.Nat.{ℕ, ◌+◌, ◌<◌, ◌≤◌}
+use mathlib.Core.Path.{refl}
+use mathlib.Core.Bool.{Bool, true, false, false≢true}
+use Prim.Native.Nat.{ℕ, ◌<◌}
+use native.Mathlib.Nat.{zero-add}
 use native.Mathlib.Omega.{arith}
-use borrow.Author.Count.{below_more}
-use borrow.Author.Tests.{leb-true, le-leb, not-true, not-false}
-use lib.Dec.{leb}
+use lib.ListN.{length}
+use Rattle.std.specs.Bool.{MatchBool}
+use Rattle.std.specs.List.{range_with_len, AllWithin, HoldsAt}
+use Rattle.std.proofs.lemmas.List.FromFn.{length-range_with_len, get_or-range_with_len}
 use Rattle.links.specs.Telling.{Tells, Told}
 
 -- yes tells what holds, no what does not
@@ -22,26 +24,17 @@ module _ {P Q : Type 0} where
   pub denied : (P → ⊥) → Told false P Q
   denied n = record { tells = tells_no n; leaves = λ e. absurd (false≢true e) }
 
--- a test of two numbers tells what holds just if the first is at most the second
-pub tells_leb : {P : Type 0} (m n : ℕ) → (m ≤ n → P) → (P → m ≤ n) → Tells (leb m n) P
-tells_leb m n f g = (λ e. f (leb-true m n e), λ p. le-leb m n (g p))
-
 -- the same told in other words
 pub tells_as : {b : Bool} {P Q : Type 0} → Tells b P → (P → Q) → (Q → P) → Tells b Q
 tells_as t f g = (λ e. f (t.0 e), λ q. t.1 (g q))
 
--- what was told where code branches on the answer
-module _ {b : Bool} {P : Type 0} (t : Tells b P) where
-  pub told_yes : not b ≡ false → P
-  told_yes e = t.0 (not-false b e)
-
-  pub told_no : not b ≡ true → P → ⊥
-  told_no e p = false≢true (sym (not-true b e) ∙ t.1 p)
-
--- an answer for each number below i goes on at i
-module _ {P : ℕ → Type 0} (i : ℕ) where
-  pub tells_fails : (P i → ⊥) → Tells false ((k : ℕ) → k < i + 1 → P k)
-  tells_fails n = tells_no (λ all. n (all i (omega arith)))
-
-  pub tells_on : {b : Bool} → Tells b ((k : ℕ) → k < i → P k) → P i → Tells b ((k : ℕ) → k < i + 1 → P k)
-  tells_on t p = (λ e. below_more P i (t.0 e) p, λ all. t.1 (λ k l. all k (omega arith)))
+-- what the library's `all` answers of the numbers below n
+pub tells_below : (P : ℕ → Type 0) (r : Bool) (n : ℕ)
+    → MatchBool r (AllWithin P (range_with_len 0 n) 0 (length (range_with_len 0 n)))
+    ((k : ℕ) × (k < length (range_with_len 0 n)) × HoldsAt (λ k. P k → ⊥) (range_with_len 0 n) k)
+    → Tells r ((k : ℕ) → k < n → P k)
+tells_below P true n h =
+    tells_yes (λ k l. rw (get_or-range_with_len 0 n k 0 l, zero-add) at (h k 0 (omega arith) (omega (arith, length-range_with_len 0 n))))
+tells_below P false n h =
+    let l : h.0 < n = omega (arith, length-range_with_len 0 n, h.1) in
+    tells_no (λ all. (rw (get_or-range_with_len 0 n h.0 0 l, zero-add) at (h.2 0)) (all h.0 l))

@@ -1,17 +1,16 @@
 -- The sweep over the departures of a network from the last to the first. Assumes nothing.
-use mathlib.Core.Path.{◌≡◌, refl, ◌∙◌, sym, ap}
+use mathlib.Core.Path.{◌≡◌, refl}
 use mathlib.Core.List.{List}
 use mathlib.Core.Logic.{inl, inr, ⊎_elim}
-use Prim.Native.Nat.{ℕ, ◌+◌, ◌<◌}
-use native.Mathlib.Numerals.{add-one}
+use Prim.Native.Nat.{ℕ, ◌+◌, ◌<◌, ◌≤◌}
 use native.Mathlib.Omega.{arith}
 use lib.ListN.{length, get_or, set}
-use Rattle.model.specs.Least.{none, key, tab}
+use Rattle.model.specs.Least.{key, tab}
 use Rattle.model.specs.Network.{Network}
 use Rattle.model.specs.Graph.{board, waiting}
-use Rattle.model.proofs.Boards.{nobody, waiting_listed}
+use Rattle.model.proofs.Boards.{waiting_listed}
 use Rattle.model.proofs.Tab.{tab_is}
-use Rattle.model.proofs.ByCases.{by_lt, by_last}
+use Rattle.model.proofs.ByCases.{by_lt}
 use Rattle.sorting.specs.Order.{Each}
 use Rattle.lists.specs.Lists.{Departed}
 use Rattle.lists.proofs.Heads.{Head, Entered, More, entered_more, listed_one, head_more}
@@ -26,11 +25,6 @@ pub record Waited (net : Network) (l : List ℕ) (i : ℕ) (heads part : List �
   pub entered : Each (Entered (waiting net) (Stands l i)) part
 
 module _ {net : Network} {k : ℕ} {l : List ℕ} (o : Departed net k l) where
-  -- before the first turn
-  pub waited_start : {heads part : List ℕ} → Each (λ b x. x ≡ none) heads → Waited net l 0 heads part
-  waited_start empty =
-      record { first = λ b h. nobody (empty b h) (λ d q w. omega (arith, w.1.1)); entered = λ c h s. absurd (omega (arith, s.1)) }
-
   module _ {i : ℕ} (h : i < k) where
     -- the next departure is before those passed, and is the first that is
     before : (d : ℕ) → Stands l i d → key net.departure (get_or l i 0) < key net.departure d
@@ -39,24 +33,15 @@ module _ {net : Network} {k : ℕ} {l : List ℕ} (o : Departed net k l) where
     behind : (d : ℕ) → d < net.connections → key net.departure (get_or l i 0) < key net.departure d → Stands l i d
     behind d q b =
         let s = o.falling.all d q in
-        let e = s.2 in
-        ⊎_elim
-        (λ (a : s.0 < i). (s.0, a, e))
-        (λ a.
-        absurd
-        (⊎_elim
-        (λ (g : i < s.0). let f = rw e at (o.falling.falls i s.0 g s.1) in omega arith)
-        (λ g. let z : s.0 ≡ i = omega arith in let f = rw z at e in omega (arith, ap (key net.departure) f))
-        (by_lt i s.0)))
-        (by_lt s.0 i)
+        let passed : s.0 < i = grind (arith, o.falling.falls i s.0) in
+        (s.0, passed, s.2)
 
     one_more : More (Stands l i) (Stands l (i + 1)) (get_or l i 0)
     one_more =
         record {
           kept = λ d s. (s.0, omega (arith, s.1), s.2);
           new = (i, omega arith, refl);
-          only = λ d s.
-              ⊎_elim (λ (a : s.0 < i). inr (s.0, a, s.2)) (λ (e : s.0 ≡ i). inl (sym s.2 ∙ ap (λ (j : ℕ). get_or l j 0) e)) (by_last (rw add-one at s.1));
+          only = λ d s. ⊎_elim (λ (a : s.0 < i). inr (s.0, a, s.2)) (λ (a : i ≤ s.0). inl (grind arith)) (by_lt s.0 i);
         }
 
     -- one turn

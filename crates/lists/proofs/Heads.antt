@@ -4,15 +4,14 @@ use mathlib.Core.Path.{◌≡◌, refl, ◌∙◌, sym, ap}
 use mathlib.Core.List.{List}
 use mathlib.Core.Logic.{◌⊎◌, ⊎_elim}
 use Prim.Native.Nat.{ℕ, ◌+◌, ◌<◌}
-use native.Mathlib.Numerals.{add-one}
 use native.Mathlib.Omega.{arith}
-use lib.ListN.{length, get_or, set, length-set}
-use lib.Seq.{get_or-set_same, get_or-set_other}
+use Rattle.std.proofs.lemmas.Grind.{common_steps}
+use lib.ListN.{length, set, length-set}
+use lib.Seq.{get_or-set_same}
 use Rattle.model.specs.Least.{key}
 use Rattle.model.specs.Network.{Network, Sound}
 use Rattle.model.specs.Graph.{board}
 use Rattle.model.proofs.Boards.{Listed, nobody, foremost}
-use Rattle.model.proofs.ByCases.{by_last}
 use Rattle.sorting.specs.Order.{Each}
 use Rattle.lists.specs.Lists.{Falling}
 use Rattle.sorting.proofs.Stores.{each_set}
@@ -42,8 +41,7 @@ module _ (f : ℕ → ℕ) {P Q : ℕ → Type 0} where
   entered_alike a l old c h q = old c h (a.back c q)
 
   pub entered_more : {c x : ℕ} → More P Q c → x ≡ f c → (l : List ℕ) → Each (Entered f P) l → Each (Entered f Q) (set l c x)
-  entered_more {c} {x} more is l old =
-      each_set (Entered f P) (Entered f Q) l c x old (λ d y ne w q. ⊎_elim (λ e. absurd (ne e)) w (more.only d q)) (λ q. is)
+  entered_more {c} {x} more is l old d h q = grind (arith, common_steps, old d, more.only d)
 
 module _ (net : Network) where
   abbrev n : ℕ
@@ -83,27 +81,10 @@ module _ (net : Network) where
 
       -- and the last of their list
       pub falling_more : {m : ℕ} (l : List ℕ) → m < length l → Falling net P m l → Falling net Q (m + 1) (set l m c)
-      falling_more {m} l room old = record { room = rw length-set (omega arith); each = each; all = all; falls = falls }
-        where
-          here : get_or (set l m c) m 0 ≡ c
-          here = get_or-set_same l m c 0 room
-
-          there : (j : ℕ) → j < m → get_or (set l m c) j 0 ≡ get_or l j 0
-          there j h = get_or-set_other l m j c 0 (λ e. omega arith)
-
-          each : (j : ℕ) → j < m + 1 → Q (get_or (set l m c) j 0)
-          each j h = ⊎_elim (λ (b : j < m). rw (there j b) (more.kept _ (old.each j b))) (λ (e : j ≡ m). rw (e, here) more.new) (by_last (rw add-one at h))
-
-          all : (d : ℕ) → Q d → (j : ℕ) × (j < m + 1) × (get_or (set l m c) j 0 ≡ d)
-          all d q =
-              ⊎_elim
-              (λ e. (m, omega arith, here ∙ sym e))
-              (λ p. let w = old.all d p in (w.0, omega (arith, w.1), there w.0 w.1 ∙ w.2))
-              (more.only d q)
-
-          falls : (i j : ℕ) → i < j → j < m + 1 → k (get_or (set l m c) j 0) < k (get_or (set l m c) i 0)
-          falls i j h b =
-              ⊎_elim
-              (λ (a : j < m). rw (there j a, there i (omega arith)) (old.falls i j h a))
-              (λ (e : j ≡ m). let a : i < m = omega arith in rw (e, here, there i a) (before _ (old.each i a)))
-              (by_last (rw add-one at b))
+      falling_more {m} l room old =
+          record {
+            room = rw length-set (omega arith);
+            each = λ j h. grind (arith, common_steps, old.each j, more.new, more.kept);
+            all = λ d q. ⊎_elim (λ e. (m, omega arith, get_or-set_same l m c 0 room ∙ sym e)) (λ p. let w = old.all d p in (w.0, omega (arith, w.1), grind (arith, common_steps))) (more.only d q);
+            falls = λ i j h b. grind (arith, common_steps, old.falls i j, old.each i, before);
+          }

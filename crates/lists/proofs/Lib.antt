@@ -1,3 +1,2 @@
-pub mod Copying
 pub mod Heads
 pub mod Awaiting

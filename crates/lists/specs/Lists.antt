@@ -20,9 +20,9 @@ pub record Departed (net : Network) (k : ℕ) (l : List ℕ) : Type 0 where
   pub falling : Falling net (λ d. d < net.connections) k l
 
 -- departures by some times
-abbrev pub DepartedBySome : List ℕ → ℕ → List ℕ → Type 0
-DepartedBySome f k departed = (g : List ℕ) × Departed (shown f g) k departed
+abbrev pub DepartedBySome : List ℕ → List ℕ → Type 0
+DepartedBySome f departed = (g : List ℕ) × Departed (shown f g) (length departed) departed
 
 -- filled by the departures
-abbrev pub WaitingBy : List ℕ → ℕ → List ℕ → List ℕ → Type 0
-WaitingBy f k departed part = (g : List ℕ) → Departed (shown f g) k departed → part ≡ tab (waiting (shown f g)) (connections f)
+abbrev pub WaitingBy : List ℕ → List ℕ → List ℕ → Type 0
+WaitingBy f departed part = (g : List ℕ) → Departed (shown f g) (length departed) departed → part ≡ tab (waiting (shown f g)) (connections f)

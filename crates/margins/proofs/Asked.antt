@@ -5,12 +5,11 @@ use mathlib.Core.Bool.{not, ◌||◌}
 use mathlib.Core.List.{List, []}
 use Prim.Native.Nat.{ℕ, ◌<◌}
 use lib.Dec.{leb, eqb}
-use Rattle.timetable.specs.Answers.{refuse_if}
+use Rattle.refusals.specs.Answers.{refuse_if, Passed, Refused}
 use Rattle.timetable.specs.File.{connections, from, to}
-use Rattle.timetable.specs.declared.Verdict.TheVariants.{Passed, Refused}
 use Rattle.timetable.proofs.Tests.{at_most, unequal, either}
 use Rattle.timetable.proofs.Order.{Rule, rule, pass, stop, passes}
-use Rattle.model.specs.RefusalNumber as refusal
+use Rattle.refusals.specs.RefusalNumber as refusal
 use Rattle.model.specs.Parts.{asked_verdict, margin_asks}
 
 -- 13, then 17

@@ -1,14 +1,10 @@
 -- A margin by its parts. Assumes nothing.
 use mathlib.Core.Path.{◌≡◌, refl, sym, ◌∙◌}
 use mathlib.Core.List.{List, []}
-use Prim.Native.Nat.{ℕ, ◌<◌}
+use Prim.Native.Nat.{ℕ}
 use native.Mathlib.Omega.{arith}
-use Rattle.timetable.specs.Answers.{Answer, accepted, refused, or_else, answering}
-use Rattle.timetable.specs.File.{connections, transfer_time, to}
-use Rattle.timetable.specs.Room.{HasStop}
-use Rattle.timetable.specs.declared.Verdict.{Verdict}
-use Rattle.timetable.specs.declared.Verdict.TheVariants.{Passed, Refused}
-use Rattle.timetable.proofs.Accepted.{room_for_stop}
+use Rattle.refusals.specs.Answers.{Answer, accepted, refused, or_else, answering, Verdict, Passed, Refused}
+use Rattle.timetable.specs.File.{transfer_time, to}
 use lib.IntN.{ℤ}
 use Rattle.model.specs.Graph.{departure_in, arrival_in}
 use Rattle.model.specs.Margin.{margin_between, margin_of, MarginRange}
@@ -17,7 +13,7 @@ use Rattle.model.specs.Drawn.{standing, network_by}
 use Rattle.model.specs.Parts.{asked_verdict, margin_asks, open_verdict}
 use Rattle.model.specs.Times.{network_of}
 use Rattle.model.specs.Operations.{margined}
-use Rattle.model.specs.Shown.{shown, Readable}
+use Rattle.model.specs.Shown.{shown}
 use Rattle.model.proofs.Verdicts.{else_passed}
 use Rattle.model.proofs.Times.{network_sound}
 use Rattle.model.proofs.Margin.{margin_range}
@@ -74,11 +70,7 @@ margined_range day areas c d z h = on (or_else (open_verdict day areas) (own day
 pub answered : (day : Day) (areas : Areas) (c d : ℕ) {r : Answer ℤ} → r ≡ margined day areas c d → MarginAnswered day areas c d r
 answered day areas c d e = record { answer = e; range = λ z h. margined_range day areas c d z (sym e ∙ h) }
 
--- what the readers ask
-pub room_stop : (f graph : List ℕ) → Readable f graph → (x c : ℕ) → x ≡ to f c → c < connections f → HasStop f x
-room_stop f graph r x c q h = rw q (room_for_stop f r.timetable (to f c) (r.timetable.to_stop c h))
-
--- what they read is the margin
+-- what the readers read is the margin
 pub margin_read : (f graph : List ℕ) (c d departure arrival stop transfer : ℕ)
     → departure ≡ departure_in graph d → arrival ≡ arrival_in graph c → stop ≡ to f c → transfer ≡ transfer_time f stop → margin_between departure arrival transfer ≡ margin_of (shown f graph) c d
 unfolding margin_of

@@ -1,19 +1,22 @@
--- Two lists compared number by number, with an answer so far. Assumes nothing.
-use mathlib.Core.Path.{◌≡◌, refl, sym, ◌∙◌, ap}
-use mathlib.Core.Bool.{Bool, false, ◌&&◌, and-false}
-use mathlib.Core.List.{List}
-use Prim.Native.Nat.{ℕ, ◌+◌, ◌<◌}
-use lib.ListN.{length, get_or, drop}
+-- Two lists of numbers compared. Assumes nothing.
+use mathlib.Core.Path.{◌≡◌, refl, ap}
+use mathlib.Core.Bool.{Bool, ◌&&◌}
+use mathlib.Core.List.{List, [], ◌∷◌, ◌++◌}
+use Prim.Native.Nat.{ℕ}
+use lib.Dec.{eqb}
+use lib.ListN.{length, take}
+use lib.Seq.{take_at}
+use Rattle.std.specs.Cmp.Lexicographic.{pointwise}
 use Rattle.model.specs.Drawn.{same}
-use Rattle.model.proofs.Lists.{same_on, same_not}
 
--- the answer p at place i and what is left give q; p' is the answer after it
-module _ {q : Bool} (p p' : Bool) (xs ys : List ℕ) (i : ℕ) (h : i < length xs) (l : length xs ≡ length ys)
-    (e : p && same (drop i xs) (drop i ys) ≡ q) where
-  -- the numbers there are equal
-  pub answer_on : get_or xs i 0 ≡ get_or ys i 0 → p' ≡ p → p' && same (drop (i + 1) xs) (drop (i + 1) ys) ≡ q
-  answer_on g z = rw (z, same_on xs ys i h l refl g) e
+-- by the library
+pointwise_same : (xs ys : List ℕ) → pointwise eqb xs ys ≡ same xs ys
+unfolding same
+pointwise_same [] [] = refl
+pointwise_same [] (y ∷ ys) = refl
+pointwise_same (x ∷ xs) [] = refl
+pointwise_same (x ∷ xs) (y ∷ ys) = ap (λ (b : Bool). eqb x y && b) (pointwise_same xs ys)
 
-  -- they differ
-  pub answer_not : (get_or xs i 0 ≡ get_or ys i 0 → ⊥) → p' ≡ false → p' && same (drop (i + 1) xs) (drop (i + 1) ys) ≡ q
-  answer_not g z = rw z (sym (and-false p) ∙ ap (λ (b : Bool). p && b) (same_not xs ys i h l refl g) ∙ e)
+-- with the front of a list that is filled with n numbers
+pub front_same : (xs front rest ys : List ℕ) (n : ℕ) → length ys ≡ n → front ≡ ys → pointwise eqb xs (take n (front ++ rest)) ≡ same xs ys
+front_same xs front rest ys n l e = rw (e, take_at ys rest n l) (pointwise_same xs ys)

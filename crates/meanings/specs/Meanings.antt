@@ -1,12 +1,10 @@
 -- What a first word and the numbers after it ask for. A word is the list of its bytes. Assumes nothing.
-use Rattle.std.specs.Prelude.{cond, List, [], ◌∷◌, ℕ}
-use Rattle.decimals.specs.declared.Number.{Number}
-use Rattle.decimals.specs.declared.Number.TheVariants.{Is, Unread}
+use Rattle.std.specs.Prelude.{cond, Option, Some, None, List, [], ◌∷◌, ℕ}
 use Rattle.model.specs.Drawn.{same}
 use Rattle.meanings.specs.declared.Command.{Command}
-use Rattle.meanings.specs.declared.Command.TheVariants.{Post, Withdraw, Enquire, Margin, Why, Unreadable}
+use Rattle.meanings.specs.declared.Command.TheVariants.{Post, Withdraw, Enquire, Margin, Why}
 use Rattle.meanings.specs.declared.Numbers.{Numbers}
-use Rattle.meanings.specs.declared.Numbers.TheVariants.{Zero, One, Two, Three, Other}
+use Rattle.meanings.specs.declared.Numbers.TheVariants.{Zero, One, Two, Three}
 
 -- the first words of the commands: p, w, q, m and why
 abbrev pub word_p : List ℕ
@@ -24,20 +22,19 @@ word_m = 109 ∷ []
 abbrev pub word_why : List ℕ
 word_why = 119 ∷ 104 ∷ 121 ∷ []
 
--- numbers and one more
-abbrev pub with_number : Numbers → Number → Numbers
-with_number numbers Unread = Other
-with_number Zero (Is n) = One n
-with_number (One a) (Is n) = Two a n
-with_number (Two a b) (Is n) = Three a b n
-with_number (Three a b c) (Is n) = Other
-with_number Other (Is n) = Other
+-- numbers and one more, if there are numbers and one more, and they are not three already
+abbrev pub with_number : Option Numbers → Option ℕ → Option Numbers
+with_number numbers None = None
+with_number (Some Zero) (Some n) = Some (One n)
+with_number (Some (One a)) (Some n) = Some (Two a n)
+with_number (Some (Two a b)) (Some n) = Some (Three a b n)
+with_number (Some (Three a b c)) (Some n) = None
+with_number None (Some n) = None
 
 -- the command of a first word and the numbers after it: w number; why connection; m connection connection;
 -- p number connection delay; q from to time
-unfoldable pub asked : List ℕ → Numbers → Command
-asked word Zero = Unreadable
-asked word (One a) = cond (same word word_w) (Withdraw a) (cond (same word word_why) (Why a) Unreadable)
-asked word (Two a b) = cond (same word word_m) (Margin a b) Unreadable
-asked word (Three a b c) = cond (same word word_p) (Post a b c) (cond (same word word_q) (Enquire a b c) Unreadable)
-asked word Other = Unreadable
+unfoldable pub asked : List ℕ → Numbers → Option Command
+asked word Zero = None
+asked word (One a) = cond (same word word_w) (Some (Withdraw a)) (cond (same word word_why) (Some (Why a)) None)
+asked word (Two a b) = cond (same word word_m) (Some (Margin a b)) None
+asked word (Three a b c) = cond (same word word_p) (Some (Post a b c)) (cond (same word word_q) (Some (Enquire a b c)) None)

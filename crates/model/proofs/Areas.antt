@@ -9,7 +9,8 @@ use borrow.Author.Tests.{eqb-true}
 use lib.Dec.{eqb}
 use lib.ListN.{length, get_or, take, drop, replicate, length-append, length-take, length-drop, length-replicate, replicate-append-replicate, take-append-drop, get_or-append}
 use lib.Seq.{drop-cons, take_at, drop_at, drop-drop, drop-append-le, get_or-drop}
-use Rattle.model.specs.Notices.{Notice, notice, width, room, notices_length, unused_row, numbers_in, row_at, flat, cut, area_of, count_in, rows_of, unused_of, unused_right, Standing}
+use Rattle.model.specs.Notices.{notice, width, room, notices_length, unused_row, numbers_in, row_at, flat, cut, area_of, count_in, rows_of, unused_of, unused_right, Standing}
+use Rattle.model.specs.declared.Notice.{Notice}
 use Rattle.model.proofs.ByCases.{and_left, and_right}
 
 -- One row. How many numbers it has is known to the laws up to `unused_is`, and to none after them.

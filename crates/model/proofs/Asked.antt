@@ -7,10 +7,10 @@ use native.Mathlib.Omega.{arith}
 use borrow.Author.Tests.{ne_eqb, lt-leb, le-leb, leb-true, leb-false, eqb-false, not-false}
 use lib.ListN.{length}
 use lib.Dec.{leb, eqb}
-use Rattle.timetable.specs.Answers.{refuse_if, or_else}
-use Rattle.timetable.specs.declared.Verdict.TheVariants.{Passed}
-use Rattle.model.specs.RefusalNumber as refusal
-use Rattle.model.specs.Notices.{Notice, notice, room, least_delay, most_posted, most_standing, stands, stands_elsewhere, entered, WellFormed}
+use Rattle.refusals.specs.Answers.{refuse_if, or_else, Passed}
+use Rattle.refusals.specs.RefusalNumber as refusal
+use Rattle.model.specs.Notices.{notice, room, least_delay, most_posted, most_standing, stands, stands_elsewhere, entered, WellFormed}
+use Rattle.model.specs.declared.Notice.{Notice}
 use Rattle.model.specs.Parts.{asked_verdict, posting_asks, withdrawal_asks}
 use Rattle.model.proofs.Verdicts.{else_passed, if_passed}
 use Rattle.model.proofs.Rows.{Fits}

@@ -6,11 +6,12 @@ use mathlib.Core.List.{List, [], ◌∷◌, ◌++◌}
 use Prim.Native.Nat.{ℕ, zero, suc, ◌*◌}
 use lib.IntN.{ℤ, pos, negsuc}
 use lib.ListN.{take, replicate}
-use Rattle.timetable.specs.Answers.{Answer, accepted, refused, first_below}
+use Rattle.refusals.specs.Answers.{Answer, accepted, refused, first_below}
 use Rattle.timetable.specs.File.{connections, transfer_time, trip, from, to, scheduled_departure, scheduled_arrival, stays_aboard}
 use Rattle.timetable.specs.Check.{header_verdict, stop_verdict, wrong_stops, wrong_trip, wrong_times, wrong_join, connection_verdict, file_verdict}
 use Rattle.model.specs.Least.{none, least_below, tab}
-use Rattle.model.specs.Notices.{Notice, notice, room, notices_length, flat, cut, area_of, rows_of, some, stands, stands_elsewhere, struck, inserted, entered, stands_right, unused_right, rows_from, rows_verdict}
+use Rattle.model.specs.Notices.{notice, room, notices_length, flat, cut, area_of, rows_of, some, stands, stands_elsewhere, struck, inserted, entered, stands_right, unused_right, rows_from, rows_verdict}
+use Rattle.model.specs.declared.Notice.{Notice}
 use Rattle.model.specs.declared.PrimaryDelay.{PrimaryDelay}
 use Rattle.model.specs.Times.{prevails, with_notice, primary_delay, expected_departure, expected_arrival, network_of}
 use Rattle.model.specs.Graph.{first_on, waiting, transfer_to, first_departure, times, graph_of}

@@ -7,16 +7,16 @@ use Prim.Native.Nat.{ℕ}
 use native.Mathlib.Omega.{arith}
 use lib.ListN.{length, drop}
 use Rattle.timetable.specs.File.{stops}
-use Rattle.timetable.specs.declared.Verdict.{Verdict}
-use Rattle.timetable.specs.declared.Verdict.TheVariants.{Passed, Refused}
-use Rattle.model.specs.RefusalNumber as refusal
+use Rattle.refusals.specs.Answers.{Verdict, Passed, Refused}
+use Rattle.refusals.specs.RefusalNumber as refusal
 use Rattle.model.specs.Network.{Network, Sound}
 use Rattle.model.specs.Journeys.{arrives}
 use Rattle.model.specs.Predecessors.{predecessors, nowhere, journey_in}
 use Rattle.model.specs.Day.{Day, Areas}
 use Rattle.model.specs.Drawn.{network_by}
 use Rattle.model.specs.Parts.{verdict, enquiry_room, enquiry_asks}
-use Rattle.model.specs.Operations.{Arrival, answered, searched, enquiry_parts, enquired}
+use Rattle.model.specs.Operations.{answered, searched, enquiry_parts, enquired}
+use Rattle.model.specs.declared.Arrival.{Arrival}
 use Rattle.model.specs.Ready.{Ready}
 use Rattle.model.specs.Meaning.{Means}
 use Rattle.model.proofs.Verdicts.{accepted_not_refused}

@@ -9,7 +9,8 @@ use native.Mathlib.Omega.{arith}
 use borrow.Author.Tests.{lt-ltb, le-ltb, ltb-true, ltb-false, leb-false, eqb-true, eqb-false, eq-eqb, ne_eqb}
 use lib.Dec.{ltb, leb, eqb}
 use lib.ListN.{length}
-use Rattle.model.specs.Notices.{Notice, room, some, stands, stands_elsewhere, struck, inserted, entered, Within, Ascending, WellFormed}
+use Rattle.model.specs.Notices.{room, some, stands, stands_elsewhere, struck, inserted, entered, Within, Ascending, WellFormed}
+use Rattle.model.specs.declared.Notice.{Notice}
 use Rattle.model.proofs.ByCases.{by_bool, strictly}
 use Rattle.model.proofs.Verdicts.{by_test}
 use Rattle.model.proofs.Rows.{Fits}

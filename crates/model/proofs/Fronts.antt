@@ -10,13 +10,12 @@ use borrow.Author.Tests.{lt-ltb, le-ltb}
 use lib.Dec.{ltb}
 use lib.ListN.{length, take, drop, length-take, take-append-drop}
 use lib.Seq.{take-append-le, drop-append-le}
-use Rattle.timetable.specs.Answers.{accepted, or_else, answering}
+use Rattle.refusals.specs.Answers.{accepted, or_else, answering, Verdict, Passed, Refused}
 use Rattle.timetable.specs.File.{stops, connections}
 use Rattle.timetable.specs.Check.{file_verdict, counts_of}
-use Rattle.timetable.specs.declared.Verdict.{Verdict}
-use Rattle.timetable.specs.declared.Verdict.TheVariants.{Passed, Refused}
-use Rattle.model.specs.RefusalNumber as refusal
-use Rattle.model.specs.Notices.{Notice, notices_length, area_of, rows_verdict}
+use Rattle.refusals.specs.RefusalNumber as refusal
+use Rattle.model.specs.Notices.{notices_length, area_of, rows_verdict}
+use Rattle.model.specs.declared.Notice.{Notice}
 use Rattle.model.specs.Network.{Network, Sound}
 use Rattle.model.specs.Times.{network_of}
 use Rattle.model.specs.Predecessors.{predecessors, nowhere, journey_in}

@@ -5,7 +5,7 @@ use mathlib.Core.Bool.{Bool, true, ◌&&◌}
 use mathlib.Core.List.{List, [], ◌∷◌}
 use Prim.Native.Nat.{ℕ, ◌*◌}
 use lib.ListN.{take, drop, replicate}
-use Rattle.timetable.specs.Answers.{Answer, accepted, refused, first_below}
+use Rattle.refusals.specs.Answers.{Answer, accepted, refused, first_below}
 use Rattle.timetable.specs.File.{transfer_time, trip, from, to, scheduled_departure, scheduled_arrival, stays_aboard}
 use Rattle.timetable.specs.Check.{header_verdict, stop_verdict, wrong_stops, wrong_trip, wrong_times, wrong_join, connection_verdict, file_verdict}
 use Rattle.model.specs.Least.{least_below, tab}
@@ -17,7 +17,8 @@ use Rattle.model.specs.Predecessors.{choose, rounds, predecessors, follow, arriv
 use Rattle.model.specs.Day.{day_of, lent}
 use Rattle.model.specs.Drawn.{same}
 use Rattle.model.specs.Parts.{part_verdict}
-use Rattle.model.specs.Operations.{built, changed, Arrival, Enquiry, enquired}
+use Rattle.model.specs.Operations.{built, changed, Enquiry, enquired}
+use Rattle.model.specs.declared.Arrival.{Arrival}
 use Rattle.model.specs.Register.{Call, posting, withdrawal}
 use Rattle.model.specs.Runs.{Run, ran, run_of}
 use Rattle.model.specs.Example.{example_j, in_bytes}

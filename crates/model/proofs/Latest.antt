@@ -9,9 +9,10 @@ use native.Mathlib.Omega.{arith}
 use borrow.Author.Tests.{eqb-true, eqb-false, eq-eqb}
 use lib.Dec.{leb, eqb}
 use lib.ListN.{length}
-use Rattle.timetable.specs.Answers.{accepted}
-use Rattle.model.specs.RefusalNumber as refusal
-use Rattle.model.specs.Notices.{Notice, notice, room, least_delay, most_posted}
+use Rattle.refusals.specs.Answers.{accepted}
+use Rattle.refusals.specs.RefusalNumber as refusal
+use Rattle.model.specs.Notices.{notice, room, least_delay, most_posted}
+use Rattle.model.specs.declared.Notice.{Notice}
 use Rattle.model.specs.Register.{Call, posting, withdrawal, has, has_elsewhere, corrected, without, Step, refuse, accept, register_step, kept, NoneAccepted, Latest}
 use Rattle.model.proofs.ByCases.{by_bool, both_fail, or_right}
 use Rattle.model.proofs.Verdicts.{by_test, accepted_not_refused}

@@ -2,12 +2,11 @@
 use mathlib.Core.Path.{◌≡◌}
 use mathlib.Core.List.{List, []}
 use Prim.Native.Nat.{ℕ}
-use Rattle.timetable.specs.Answers.{accepted, refused, or_else}
+use Rattle.refusals.specs.Answers.{accepted, refused, or_else, Passed, Refused}
 use Rattle.timetable.specs.Check.{file_verdict}
 use Rattle.timetable.specs.Accepted.{Opened}
 use Rattle.timetable.proofs.Accepted.{accepted_iff}
-use Rattle.timetable.specs.declared.Verdict.TheVariants.{Passed, Refused}
-use Rattle.model.specs.Notices.{Notice}
+use Rattle.model.specs.declared.Notice.{Notice}
 use Rattle.model.specs.Day.{Day, Areas}
 use Rattle.model.specs.Drawn.{standing}
 use Rattle.model.specs.Parts.{Ask, asked_verdict, part_verdict, room_verdict, open_verdict}

@@ -9,16 +9,15 @@ use native.Mathlib.Omega.{arith}
 use borrow.Author.Tests.{ltb-false, le-ltb}
 use lib.Dec.{ltb}
 use lib.ListN.{length, take}
-use Rattle.timetable.specs.Answers.{refuse_if, or_else}
+use Rattle.refusals.specs.Answers.{refuse_if, or_else, Passed, Refused}
 use Rattle.timetable.specs.File.{connections}
 use Rattle.timetable.specs.Check.{file_verdict}
 use Rattle.timetable.specs.Refusals.{FileRefusal, no_header, wrong_mark_lem, wrong_version_lem, wrong_stop_count_lem, wrong_connection_count_lem, wrong_length_lem, wrong_transfer, wrong_stops_lem, wrong_trip_lem, wrong_times_lem, wrong_join_lem}
-use Rattle.timetable.specs.RefusalNumber as of-file
-use Rattle.timetable.specs.declared.Verdict.TheVariants.{Passed, Refused}
 use Rattle.timetable.proofs.Order.{or_passed, else_assoc}
 use Rattle.timetable.proofs.Refusals.{refused_iff}
-use Rattle.model.specs.RefusalNumber as refusal
-use Rattle.model.specs.Notices.{Notice, notices_length, rows_verdict}
+use Rattle.refusals.specs.RefusalNumber as refusal
+use Rattle.model.specs.Notices.{notices_length, rows_verdict}
+use Rattle.model.specs.declared.Notice.{Notice}
 use Rattle.model.specs.Day.{Day, Areas}
 use Rattle.model.specs.Drawn.{same, graph_length, graph_for, standing}
 use Rattle.model.specs.Parts.{Ask, asked_verdict, Part, given, needs, rows, drawn, asks, part_verdict, verdict, areas_room, call_parts, room_verdict, contents_verdict, areas_verdict, open_verdict}
@@ -35,7 +34,7 @@ needs_passed day areas n area most = (
 )
 
 -- a file is refused with 1 to 11
-pub file_number : {f : List ℕ} {n p : ℕ} → FileRefusal f n p → (0 < n) × (n ≤ of-file.wrong_join)
+pub file_number : {f : List ℕ} {n p : ℕ} → FileRefusal f n p → (0 < n) × (n ≤ refusal.wrong_join)
 file_number (no_header h) = (omega arith, omega arith)
 file_number (wrong_mark_lem h k) = (omega arith, omega arith)
 file_number (wrong_version_lem h k) = (omega arith, omega arith)
@@ -55,7 +54,7 @@ AskedWith (a ∷ more) n = (n ≡ a.number) ⊎ AskedWith more n
 
 -- n is one of the numbers that a part refuses with
 abbrev pub RefusesWith : Part → ℕ → Type 0
-RefusesWith given n = (0 < n) × (n ≤ of-file.wrong_join)
+RefusesWith given n = (0 < n) × (n ≤ refusal.wrong_join)
 RefusesWith (needs m area most) n = n ≡ m
 RefusesWith rows n = n ≡ refusal.wrong_row
 RefusesWith drawn n = n ≡ refusal.wrong_graph

@@ -5,11 +5,10 @@ use mathlib.Core.List.{List, [], Memᴰ}
 use Prim.Native.Nat.{ℕ, suc, ◌≤◌}
 use native.Mathlib.Omega.{arith}
 use lib.ListN.{length}
-use Rattle.timetable.specs.Answers.{accepted}
+use Rattle.refusals.specs.Answers.{accepted, Verdict, Passed, Refused}
 use Rattle.timetable.specs.File.{connections}
-use Rattle.timetable.specs.declared.Verdict.{Verdict}
-use Rattle.timetable.specs.declared.Verdict.TheVariants.{Passed, Refused}
-use Rattle.model.specs.Notices.{Notice, notice, most_posted, stands, stands_elsewhere, entered, WellFormed}
+use Rattle.model.specs.Notices.{notice, most_posted, stands, stands_elsewhere, entered, WellFormed}
+use Rattle.model.specs.declared.Notice.{Notice}
 use Rattle.model.specs.Day.{Day, Areas, lent}
 use Rattle.model.specs.Drawn.{standing}
 use Rattle.model.specs.Parts.{asked_verdict, verdict, call_parts, posting_asks, open_verdict}

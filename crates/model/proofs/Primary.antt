@@ -11,7 +11,8 @@ use borrow.Author.Tests.{eq-eqb, ne_eqb, eqb-true, ltb-true, lt-ltb, le-ltb}
 use lib.Dec.{ltb, eqb}
 use Rattle.timetable.proofs.Tests.{below, either, only_if}
 use Rattle.model.specs.declared.PrimaryDelay.{PrimaryDelay}
-use Rattle.model.specs.Notices.{Notice, most_standing, Ascending}
+use Rattle.model.specs.Notices.{most_standing, Ascending}
+use Rattle.model.specs.declared.Notice.{Notice}
 use Rattle.model.specs.Times.{no_delay, given_by, prevails, with_notice, primary_delay}
 use Rattle.model.proofs.ByCases.{by_lt, by_eq, by_bool, and_left, and_right, or_cases}
 use Rattle.model.proofs.Entering.{among_within}

@@ -6,15 +6,14 @@ use native.Mathlib.Omega.{arith}
 use borrow.Author.Tests.{not-false}
 use lib.ListN.{length, take, drop, length-append, take-append-drop}
 use Rattle.timetable.specs.File.{connections}
-use Rattle.timetable.specs.Answers.{accepted}
+use Rattle.refusals.specs.Answers.{accepted, refused, Passed, Refused}
 use Rattle.timetable.specs.Accepted.{Opened}
-use Rattle.timetable.specs.Check.{file_verdict, Counts, counts_of, told_counts}
-use Rattle.timetable.specs.declared.Checked.{Checked}
-use Rattle.timetable.specs.declared.Checked.TheVariants as C
-use Rattle.timetable.specs.declared.Verdict.TheVariants.{Passed, Refused}
+use Rattle.timetable.specs.Check.{file_verdict, counts_of}
+use Rattle.timetable.specs.declared.Counts.{Counts}
 use Rattle.timetable.proofs.Accepted.{accepted_iff}
-use Rattle.model.specs.RefusalNumber as refusal
-use Rattle.model.specs.Notices.{Notice, notices_length, rows_verdict, Standing}
+use Rattle.refusals.specs.RefusalNumber as refusal
+use Rattle.model.specs.Notices.{notices_length, rows_verdict, Standing}
+use Rattle.model.specs.declared.Notice.{Notice}
 use Rattle.model.specs.Network.{Network, Sound}
 use Rattle.model.specs.Times.{network_of}
 use Rattle.model.specs.Graph.{departure_in, arrival_in}
@@ -65,10 +64,10 @@ pub open_accepted : (day : Day) (areas : Areas) (s n : ℕ) → Opened day.file 
 open_accepted day areas s n o h = rw (o.stops, o.connections, (accepted_iff day.file).1 o.timetable, h)
 
 -- and answers them only then
-pub opened_passed : (day : Day) (areas : Areas) (r : Checked) → told_counts r ≡ examined day areas
-    → (s n : ℕ) → r ≡ C.Accepted s n → (open_verdict day areas ≡ Passed) × Opened day.file s n
-opened_passed day areas r e s n q =
-    let a = answering_accepted (open_verdict day areas) (record { stops = s; connections = n }) (counts_of day.file) (rw q at e) in (
+pub opened_passed : (day : Day) (areas : Areas) (counts : Counts) → accepted counts ≡ examined day areas
+    → (open_verdict day areas ≡ Passed) × Opened day.file counts.stops counts.connections
+opened_passed day areas counts e =
+    let a = answering_accepted (open_verdict day areas) counts (counts_of day.file) e in (
       a.0,
       record {
         timetable = (open_ready day areas a.0).timetable;
@@ -78,9 +77,8 @@ opened_passed day areas r e s n q =
     )
 
 -- the refusal of what is given or of the areas
-pub opened_refused : (day : Day) (areas : Areas) (r : Checked) → told_counts r ≡ examined day areas
-    → (n p : ℕ) → r ≡ C.Refused n p → open_verdict day areas ≡ Refused n p
-opened_refused day areas r e n p q = answering_refused (open_verdict day areas) (counts_of day.file) n p (rw q at e)
+pub opened_refused : (day : Day) (areas : Areas) (n p : ℕ) → refused n p ≡ examined day areas → open_verdict day areas ≡ Refused n p
+opened_refused day areas n p e = answering_refused (open_verdict day areas) (counts_of day.file) n p e
 
 module _ (day : Day) (areas : Areas) (ready : Ready day areas) where
   abbrev net : Network

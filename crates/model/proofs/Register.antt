@@ -10,7 +10,8 @@ use native.Mathlib.Omega.{arith}
 use borrow.Author.Tests.{ltb-true, ltb-false, lt-ltb, le-ltb, eqb-true, eqb-false, not-false}
 use lib.Dec.{ltb, eqb}
 use lib.ListN.{length}
-use Rattle.model.specs.Notices.{Notice, notice, some, stands, stands_elsewhere, struck, inserted, entered, Ascending}
+use Rattle.model.specs.Notices.{notice, some, stands, stands_elsewhere, struck, inserted, entered, Ascending}
+use Rattle.model.specs.declared.Notice.{Notice}
 use Rattle.model.specs.Register.{has, has_elsewhere, corrected, without}
 use Rattle.model.proofs.ByCases.{by_bool, by_lt, both_fail, strictly}
 use Rattle.model.proofs.Verdicts.{by_test}

@@ -10,11 +10,10 @@ use borrow.Author.Tests.{lt-ltb, le-ltb, le-leb, ltb-true, ltb-false, leb-true, 
 use lib.Dec.{ltb, leb}
 use lib.ListN.{length, drop, replicate, get_or-append}
 use lib.Seq.{drop-drop}
-use Rattle.timetable.specs.Answers.{refuse_if, or_else}
-use Rattle.timetable.specs.declared.Verdict.{Verdict}
-use Rattle.timetable.specs.declared.Verdict.TheVariants.{Passed, Refused}
-use Rattle.model.specs.Notices.{Notice, width, room, notices_length, least_delay, most_standing, unused_row, row_at, flat, cut, area_of, count_in, rows_of, unused_of, stands_right, unused_right, rows_from, standing_verdict, unused_verdict, rows_verdict, Within, Ascending, WellFormed}
-use Rattle.model.specs.RefusalNumber as refusal
+use Rattle.refusals.specs.Answers.{refuse_if, or_else, Verdict, Passed, Refused}
+use Rattle.model.specs.Notices.{width, room, notices_length, least_delay, most_standing, unused_row, row_at, flat, cut, area_of, count_in, rows_of, unused_of, stands_right, unused_right, rows_from, standing_verdict, unused_verdict, rows_verdict, Within, Ascending, WellFormed}
+use Rattle.model.specs.declared.Notice.{Notice}
+use Rattle.refusals.specs.RefusalNumber as refusal
 use Rattle.timetable.proofs.Order.{or_passed}
 use Rattle.model.proofs.ByCases.{by_lt, by_bool, and_left, and_right, one_more}
 use Rattle.model.proofs.Verdicts.{passed_not_refused, else_passed, if_passed}

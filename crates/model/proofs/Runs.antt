@@ -10,13 +10,13 @@ use borrow.Author.Tests.{leb-true, leb-false, eqb-false, not-false}
 use lib.Dec.{leb, eqb}
 use lib.ListN.{length, drop, length-append}
 use lib.Seq.{drop_at, take_at}
-use Rattle.timetable.specs.Answers.{Answer, accepted, refused, refuse_if, answering}
+use Rattle.refusals.specs.Answers.{Answer, accepted, refused, refuse_if, answering, Verdict, Passed, Refused}
 use Rattle.timetable.specs.File.{stops, connections}
-use Rattle.timetable.specs.Check.{file_verdict, Counts, counts_of}
-use Rattle.timetable.specs.declared.Verdict.{Verdict}
-use Rattle.timetable.specs.declared.Verdict.TheVariants.{Passed, Refused}
-use Rattle.model.specs.RefusalNumber as refusal
-use Rattle.model.specs.Notices.{Notice, notice, room, notices_length, width, least_delay, most_posted, area_of, stands, stands_elsewhere, struck, entered, rows_verdict, Ascending, WellFormed}
+use Rattle.timetable.specs.Check.{file_verdict, counts_of}
+use Rattle.timetable.specs.declared.Counts.{Counts}
+use Rattle.refusals.specs.RefusalNumber as refusal
+use Rattle.model.specs.Notices.{notice, room, notices_length, width, least_delay, most_posted, area_of, stands, stands_elsewhere, struck, entered, rows_verdict, Ascending, WellFormed}
+use Rattle.model.specs.declared.Notice.{Notice}
 use Rattle.model.specs.Network.{Network}
 use Rattle.model.specs.Times.{primary_delay, network_of}
 use Rattle.model.specs.Predecessors.{predecessors, nowhere, journey_in}

@@ -10,7 +10,7 @@ use borrow.Author.Tests.{ne_eqb, eqb-false}
 use lib.ListN.{length, take, drop, length-append}
 use lib.Seq.{take-suc}
 use Rattle.timetable.specs.File.{connections}
-use Rattle.timetable.specs.declared.Verdict.TheVariants.{Passed}
+use Rattle.refusals.specs.Answers.{Passed}
 use Rattle.model.specs.Least.{none, least_below}
 use Rattle.model.specs.Network.{Network, Sound}
 use Rattle.model.specs.Times.{network_of}

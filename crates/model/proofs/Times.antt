@@ -8,7 +8,8 @@ use Prim.Native.Nat.{ℕ, zero, suc, ◌+◌, ◌<◌, ◌≤◌, max}
 use native.Mathlib.Omega.{arith}
 use Rattle.timetable.specs.File.{connections, to, scheduled_departure, scheduled_arrival, stays_aboard}
 use Rattle.timetable.specs.Accepted.{Timetable}
-use Rattle.model.specs.Notices.{Notice, most_standing, WellFormed}
+use Rattle.model.specs.Notices.{most_standing, WellFormed}
+use Rattle.model.specs.declared.Notice.{Notice}
 use Rattle.model.specs.Network.{Sound}
 use Rattle.model.specs.Day.{Day}
 use Rattle.model.specs.Times.{Conditions, conditions_of, own_departure, travel_time, expected_departure, expected_arrival, network_with, network_of}

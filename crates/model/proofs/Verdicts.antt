@@ -5,9 +5,7 @@ use mathlib.Core.Bool.{Bool, true, false, cond}
 use Prim.Native.Nat.{ℕ}
 pub use Rattle.timetable.proofs.Order.{passed_not_refused, else_passed, else_refused}
 use native.Mathlib.Omega.{arith}
-use Rattle.timetable.specs.Answers.{Answer, accepted, refused, refuse_if, or_else, answering}
-use Rattle.timetable.specs.declared.Verdict.{Verdict}
-use Rattle.timetable.specs.declared.Verdict.TheVariants.{Passed, Refused}
+use Rattle.refusals.specs.Answers.{Answer, accepted, refused, refuse_if, or_else, answering, Verdict, Passed, Refused}
 
 -- a refusal by a test that passes
 pub if_passed : (b : Bool) (n p : ℕ) → (refuse_if b n p ≡ Passed) ↔ (b ≡ false)

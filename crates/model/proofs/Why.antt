@@ -7,15 +7,13 @@ use Prim.Native.Nat.{ℕ, ◌<◌, ◌≤◌}
 use borrow.Author.Tests.{ltb-false, leb-false, le-ltb}
 use lib.Dec.{ltb, leb}
 use lib.ListN.{length, take, drop, take-append-drop}
-use Rattle.timetable.specs.Answers.{accepted, refused, refuse_if, or_else, answering}
+use Rattle.refusals.specs.Answers.{accepted, refused, refuse_if, or_else, answering, Passed}
 use Rattle.timetable.specs.File.{connections}
 use Rattle.timetable.specs.Accepted.{Timetable}
 use Rattle.timetable.specs.Check.{file_verdict}
-use Rattle.timetable.specs.RefusalNumber as of-file
-use Rattle.timetable.specs.declared.Verdict.TheVariants.{Passed}
 use Rattle.timetable.proofs.Accepted.{accepted_iff}
 use Rattle.timetable.proofs.Refusals.{refused_iff}
-use Rattle.model.specs.RefusalNumber as refusal
+use Rattle.refusals.specs.RefusalNumber as refusal
 use Rattle.model.specs.declared.PrimaryDelay.{PrimaryDelay}
 use Rattle.model.specs.Notices.{notices_length, rows_of, rows_verdict, Standing}
 use Rattle.model.specs.Times.{primary_delay}
@@ -70,7 +68,7 @@ why_means f notices c p h =
 -- it refuses with 1 to 11, 21, 23 and 13 only
 abbrev pub WhyRefuses : ℕ → Type 0
 WhyRefuses n =
-    ((0 < n) × (n ≤ of-file.wrong_join)) ⊎ ((n ≡ refusal.short_notices) ⊎ ((n ≡ refusal.wrong_row) ⊎ (n ≡ refusal.unknown_connection)))
+    ((0 < n) × (n ≤ refusal.wrong_join)) ⊎ ((n ≡ refusal.short_notices) ⊎ ((n ≡ refusal.wrong_row) ⊎ (n ≡ refusal.unknown_connection)))
 
 pub why_number : (f notices : List ℕ) (c n p : ℕ) → explained f notices c ≡ refused n p → WhyRefuses n
 unfolding explained why_verdict

@@ -5,7 +5,8 @@ use Prim.Native.Nat.{ℕ}
 use native.Mathlib.Omega.{arith}
 use lib.ListN.{drop, length-append}
 use Rattle.timetable.specs.File.{connections}
-use Rattle.model.specs.Notices.{Notice, notices_length, area_of, rows_of, WellFormed, Standing}
+use Rattle.model.specs.Notices.{notices_length, area_of, rows_of, WellFormed, Standing}
+use Rattle.model.specs.declared.Notice.{Notice}
 use Rattle.model.specs.Day.{Day, Areas, lent}
 use Rattle.model.specs.Drawn.{graph_length, graph_for}
 use Rattle.model.specs.Operations.{written}

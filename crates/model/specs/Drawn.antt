@@ -2,7 +2,8 @@
 use Rattle.std.specs.Prelude.{Bool, true, false, ◌&&◌, List, [], ◌∷◌, ◌++◌, ℕ, eqb, drop}
 use Rattle.timetable.specs.File.{stops, connections}
 use Rattle.timetable.specs.Check.{max_stops, max_connections}
-use Rattle.model.specs.Notices.{Notice, rows_of}
+use Rattle.model.specs.Notices.{rows_of}
+use Rattle.model.specs.declared.Notice.{Notice}
 use Rattle.model.specs.Day.{Day, Areas}
 use Rattle.model.specs.Network.{Network}
 use Rattle.model.specs.Times.{network_of}

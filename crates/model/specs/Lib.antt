@@ -1,4 +1,3 @@
-pub mod RefusalNumber
 pub mod Least
 pub mod Notices
 pub mod Network

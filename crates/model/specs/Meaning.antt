@@ -1,10 +1,10 @@
 -- What an enquiry's answer means (demand 2). Assumes nothing.
 use Rattle.std.specs.Prelude.{◌≡◌, List, ◌++◌, reverse, ℕ, length, drop}
-use Rattle.timetable.specs.Answers.{Answer, accepted, refused}
-use Rattle.model.specs.RefusalNumber as refusal
+use Rattle.refusals.specs.Answers.{Answer, accepted, refused}
+use Rattle.refusals.specs.RefusalNumber as refusal
 use Rattle.model.specs.Network.{Network}
 use Rattle.model.specs.Journeys.{arrives, Best, Unreachable}
-use Rattle.model.specs.Operations.{Arrival}
+use Rattle.model.specs.declared.Arrival.{Arrival}
 
 -- a journey that is valid, than which none arrives earlier, and which is the first in the order of those that arrive with it;
 -- the answer tells when it arrives and how many connections it has, and the journey's area holds it in the order of travel

@@ -1,10 +1,9 @@
 -- Notices, the notice area, and its check. Row width, room, area length and limits are named here and nowhere else.
 -- Assumes nothing.
 use Rattle.std.specs.Prelude.{◌≡◌, Bool, true, false, cond, not, ◌&&◌, List, [], ◌∷◌, ◌++◌, ℕ, zero, suc, ◌+◌, ◌*◌, ◌-◌, ◌≤◌, ◌<◌, ltb, leb, eqb, length, get_or, drop, replicate}
-use Rattle.timetable.specs.Answers.{refuse_if, or_else}
-use Rattle.timetable.specs.declared.Verdict.{Verdict}
-use Rattle.timetable.specs.declared.Verdict.TheVariants.{Passed}
-use Rattle.model.specs.RefusalNumber as refusal
+use Rattle.refusals.specs.Answers.{refuse_if, or_else, Verdict, Passed}
+use Rattle.model.specs.declared.Notice.{Notice}
+use Rattle.refusals.specs.RefusalNumber as refusal
 
 -- the numbers of one row
 abbrev pub width : ℕ
@@ -27,11 +26,6 @@ most_posted = 1440
 
 abbrev pub most_standing : ℕ
 most_standing = 1440
-
-pub record Notice : Type 0 where
-  pub number : ℕ
-  pub connection : ℕ
-  pub delay : ℕ
 
 abbrev pub notice : ℕ → ℕ → ℕ → Notice
 notice n c d = record { number = n; connection = c; delay = d }

@@ -1,15 +1,16 @@
 -- The operations: for each one definition of everything after it, from the day, the areas and the numbers as they came in. A
 -- refusal changes nothing, but 30 fills the predecessors as an answer does. Assumes nothing.
 use Rattle.std.specs.Prelude.{Bool, true, false, List, [], ◌++◌, reverse, ℕ, ℤ, ltb, leb, length, drop}
-use Rattle.timetable.specs.Answers.{Answer, accepted, refused, refuse_if, or_else, answering}
+use Rattle.refusals.specs.Answers.{Answer, accepted, refused, refuse_if, or_else, answering, Verdict, Passed, Refused}
 use Rattle.timetable.specs.File.{stops, connections}
-use Rattle.timetable.specs.Check.{file_verdict, Counts, counts_of}
-use Rattle.timetable.specs.declared.Verdict.{Verdict}
-use Rattle.timetable.specs.declared.Verdict.TheVariants.{Passed, Refused}
-use Rattle.model.specs.RefusalNumber as refusal
-use Rattle.model.specs.Notices.{Notice, notice, notices_length, area_with, rows_of, entered, struck, rows_verdict}
+use Rattle.timetable.specs.Check.{file_verdict, counts_of}
+use Rattle.timetable.specs.declared.Counts.{Counts}
+use Rattle.refusals.specs.RefusalNumber as refusal
+use Rattle.model.specs.Notices.{notice, notices_length, area_with, rows_of, entered, struck, rows_verdict}
+use Rattle.model.specs.declared.Notice.{Notice}
 use Rattle.model.specs.Network.{Network}
 use Rattle.model.specs.declared.PrimaryDelay.{PrimaryDelay}
+use Rattle.model.specs.declared.Arrival.{Arrival}
 use Rattle.model.specs.Times.{primary_delay}
 use Rattle.model.specs.Journeys.{arrives}
 use Rattle.model.specs.Predecessors.{predecessors, nowhere, journey_in}
@@ -50,11 +51,6 @@ posted day areas n c d = changed day areas (posting_asks (connections day.file) 
 -- withdrawing notice n
 abbrev pub withdrawn : Day → Areas → ℕ → Outcome ℕ
 withdrawn day areas n = changed day areas (withdrawal_asks n) n (struck n)
-
--- when a journey arrives, and how many connections it has
-pub record Arrival : Type 0 where
-  pub time : ℕ
-  pub connections : ℕ
 
 -- an enquiry's answer, and the predecessors' area and the journey's area afterwards
 pub record Enquiry : Type 0 where

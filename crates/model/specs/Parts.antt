@@ -1,12 +1,12 @@
 -- The refusals of the operations in parts, and the order in which the parts of an operation decide. Assumes nothing.
 use Rattle.std.specs.Prelude.{Bool, not, ◌&&◌, ◌||◌, List, [], ◌∷◌, ◌++◌, ℕ, ltb, leb, eqb, length, take}
-use Rattle.timetable.specs.Answers.{Answer, refuse_if, or_else, answering}
+use Rattle.refusals.specs.Answers.{Answer, refuse_if, or_else, answering, Verdict, Passed}
 use Rattle.timetable.specs.File.{connections, from, to}
-use Rattle.timetable.specs.Check.{file_verdict, Counts, counts_of}
-use Rattle.timetable.specs.declared.Verdict.{Verdict}
-use Rattle.timetable.specs.declared.Verdict.TheVariants.{Passed}
-use Rattle.model.specs.RefusalNumber as refusal
-use Rattle.model.specs.Notices.{Notice, room, notices_length, least_delay, most_posted, stands, stands_elsewhere, rows_verdict}
+use Rattle.timetable.specs.Check.{file_verdict, counts_of}
+use Rattle.timetable.specs.declared.Counts.{Counts}
+use Rattle.refusals.specs.RefusalNumber as refusal
+use Rattle.model.specs.Notices.{room, notices_length, least_delay, most_posted, stands, stands_elsewhere, rows_verdict}
+use Rattle.model.specs.declared.Notice.{Notice}
 use Rattle.model.specs.Network.{last_expected}
 use Rattle.model.specs.Day.{Day, Areas}
 use Rattle.model.specs.Drawn.{same, graph_length, graph_for, standing}

@@ -1,9 +1,10 @@
 -- The register of notices (document 01: the book): what a clerk would keep, fed the connection count and the calls' own
 -- numbers. A new notice is entered at the end; the order has no meaning. Assumes nothing.
 use Rattle.std.specs.Prelude.{◌≡◌, ◌⊎◌, Bool, false, cond, not, ◌&&◌, ◌||◌, List, [], ◌∷◌, ◌++◌, ℕ, leb, eqb, length}
-use Rattle.timetable.specs.Answers.{Answer, accepted, refused}
-use Rattle.model.specs.RefusalNumber as refusal
-use Rattle.model.specs.Notices.{Notice, notice, room, least_delay, most_posted}
+use Rattle.refusals.specs.Answers.{Answer, accepted, refused}
+use Rattle.refusals.specs.RefusalNumber as refusal
+use Rattle.model.specs.Notices.{notice, room, least_delay, most_posted}
+use Rattle.model.specs.declared.Notice.{Notice}
 
 -- a call of a run, with its own numbers
 pub data Call : Type 0 where

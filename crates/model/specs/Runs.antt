@@ -2,11 +2,12 @@
 -- claim about whole runs (demand 3). Assumes nothing.
 use Rattle.std.specs.Prelude.{◌≡◌, ◌↔◌, Bool, true, ◌&&◌, ◌||◌, ℕ, ◌*◌, ◌-◌, ◌<◌, ◌≤◌, leb, eqb, length, take, drop, replicate}
 use mathlib.Core.List.{List, [], ◌∷◌, ◌++◌, Memᴰ}
-use Rattle.timetable.specs.Answers.{Answer, accepted, refused}
+use Rattle.refusals.specs.Answers.{Answer, accepted, refused}
 use Rattle.timetable.specs.File.{connections}
-use Rattle.timetable.specs.Check.{Counts}
-use Rattle.model.specs.RefusalNumber as refusal
-use Rattle.model.specs.Notices.{Notice, width, room, notices_length, flat}
+use Rattle.timetable.specs.declared.Counts.{Counts}
+use Rattle.refusals.specs.RefusalNumber as refusal
+use Rattle.model.specs.Notices.{width, room, notices_length, flat}
+use Rattle.model.specs.declared.Notice.{Notice}
 use Rattle.model.specs.Graph.{Node}
 use Rattle.model.specs.Day.{Day, Areas}
 use Rattle.model.specs.Drawn.{graph_length, graph_for}

@@ -21,11 +21,15 @@ shown f graph =
       transfer_time = λ c b. transfer_time f (to f c);
     }
 
+-- a graph area has the lists that belong to the times that it shows
+abbrev pub Drawn : List ℕ → List ℕ → Type 0
+Drawn f graph = graph ≡ graph_of (shown f graph) ++ drop (graph_length f) graph
+
 -- an accepted timetable, and a graph area that shows sound times and has the lists that belong to them
 pub record Readable (f graph : List ℕ) : Type 0 where
   pub timetable : Timetable f
   pub sound : Sound (shown f graph)
-  pub drawn : graph ≡ graph_of (shown f graph) ++ drop (graph_length f) graph
+  pub drawn : Drawn f graph
 
 -- the arcs of a graph area: those that are not stored, aboard a connection and staying aboard to the next of the trip; and each
 -- waiting and each transfer entry other than none, from its connection to the one that it names

@@ -2,7 +2,7 @@
 use Rattle.std.specs.Prelude.{Bool, cond, ◌&&◌, ◌||◌, List, [], ◌∷◌, ℕ, zero, suc, ◌+◌, ◌-◌, max, ltb, eqb}
 use Rattle.timetable.specs.File.{stops, connections, transfer_time, from, to, scheduled_departure, scheduled_arrival, stays_aboard}
 use Rattle.model.specs.declared.PrimaryDelay.{PrimaryDelay}
-use Rattle.model.specs.Notices.{Notice}
+use Rattle.model.specs.declared.Notice.{Notice}
 use Rattle.model.specs.Network.{Network}
 use Rattle.model.specs.Day.{Day}
 

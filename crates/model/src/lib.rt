@@ -1,8 +1,6 @@
 // Every rule of document 01 as a definition (specs/), with the laws that give them their meaning (proofs/). The code here is the
-// limits and the refusals by name, each constant the definition of the same name in specs/, and the primary delay as a struct.
+// limits by name, each constant the definition of the same name in specs/, and what definitions and code hand on as structs.
 #![tactic(auto)]
-
-pub mod refusal;
 
 // No connection: `none`.
 pub const NONE: u16 = 65535;
@@ -31,8 +29,23 @@ pub const LAST_EXPECTED: u16 = 5759;
 // The longest graph area: `most_graph`.
 pub const MOST_GRAPH: usize = 8500;
 
+// A notice: its number, the connection that it is for, and by how many minutes that is delayed.
+#[derive(Clone, Copy, Debug, PartialEq, Eq)]
+pub struct Notice {
+    pub number: u16,
+    pub connection: u16,
+    pub delay: u16,
+}
+
+// When a journey arrives, and how many connections it has.
+#[derive(Clone, Copy, Debug, PartialEq, Eq)]
+pub struct Arrival {
+    pub time: u16,
+    pub connections: u16,
+}
+
 // A connection's primary delay and the number of the notice that gives it.
-#[derive(Clone, Copy)]
+#[derive(Clone, Copy, Debug, PartialEq, Eq)]
 pub struct PrimaryDelay {
     pub delay: u16,
     pub notice: u16,

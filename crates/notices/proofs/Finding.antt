@@ -5,11 +5,13 @@ use mathlib.Core.Logic.{⊎_elim}
 use mathlib.Core.Bool.{Bool, true, false, cond, not}
 use mathlib.Core.List.{List, [], ◌∷◌}
 use Prim.Native.Nat.{ℕ, zero, suc, ◌+◌, ◌*◌, ◌-◌, ◌≤◌, ◌<◌}
+use native.Mathlib.Nat.{zero-add, sub-zero}
 use native.Mathlib.Omega.{arith}
 use borrow.Author.Tests.{eq-eqb, ne_eqb, eqb-true, lt-ltb, le-ltb}
 use lib.Dec.{ltb, eqb}
 use lib.ListN.{length, drop}
-use Rattle.model.specs.Notices.{Notice, width, cut, some, stands, stands_elsewhere, Ascending}
+use Rattle.model.specs.Notices.{width, cut, count_in, rows_of, some, stands, stands_elsewhere, Ascending}
+use Rattle.model.specs.declared.Notice.{Notice}
 use Rattle.model.proofs.ByCases.{by_lt, by_bool}
 use Rattle.model.proofs.Areas.{row_of, cut_more}
 use Rattle.model.proofs.Entering.{stands_below, elsewhere_none}
@@ -19,6 +21,10 @@ use Rattle.notices.proofs.NextRow.{one_less, next_row}
 -- looking through m rows from the place on
 abbrev pub to_find : List ℕ → ℕ → ℕ → ℕ → ℕ
 to_find area at m number = row_with number (cut m (drop at area))
+
+pub find_start : (area : List ℕ) (number : ℕ) → 0 + to_find area (1 + width * 0) (count_in area - 0) number ≡ row_with number (rows_of area)
+unfolding rows_of
+find_start area number = rw (zero-add, sub-zero)
 
 module _ {x : ℕ} (area : List ℕ) (count k number : ℕ) (h : k < count) (i : k + to_find area (1 + width * k) (count - k) number ≡ x) where
   abbrev here : ℕ

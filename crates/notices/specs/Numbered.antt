@@ -1,6 +1,6 @@
 -- Where a number is among the rows. Assumes nothing.
 use Rattle.std.specs.Prelude.{cond, List, [], ◌∷◌, ℕ, suc, eqb}
-use Rattle.model.specs.Notices.{Notice}
+use Rattle.model.specs.declared.Notice.{Notice}
 
 -- the first row of this number, counted from 0; past the last row if there is none
 unfoldable pub row_with : ℕ → List Notice → ℕ

@@ -2,38 +2,23 @@
 // an area of numbers and written back. The laws that join the two directions are in proofs/Areas.
 #![tactic(auto)]
 
-ghost use Rattle.std.specs.Prelude.{◌≡◌, ◌+◌, ◌<◌, min, length};
+ghost use Rattle.std.specs.Prelude.{◌≡◌, ◌+◌, ◌<◌, length};
 ghost use Rattle.numbers.specs.Numbers.{number_at, numbers_of, over, over_bytes};
-
-fn wide(x: u8) -> u16
-    ensures { result ≡ x }
-{
-    x as u16
-}
-
-fn lower(a: usize, b: usize) -> usize
-    ensures { result ≡ min a b }
-{
-    if a < b { a } else { b }
-}
 
 // The number whose low byte is at place `at`.
 pub fn number_at(bytes: &[u8], at: usize) -> u16
     requires { at + 1 < length bytes.now }
     ensures { result ≡ number_at bytes.now at }
 {
-    wide(bytes[at]) + 256 * wide(bytes[at + 1])
+    u16::from_le_bytes([bytes[at], bytes[at + 1]])
 }
 
 // The numbers of `bytes` into `area`, as many as both hold; the rest of the area is unchanged.
 pub fn read_area(bytes: &[u8], area: &mut [u16])
     ensures { area.new ≡ over (numbers_of bytes.now) area.old }
 {
-    let n = lower(area.len(), bytes.len() / 2);
-    let mut i = 0;
-    while i < n {
+    for i in 0..area.len().min(bytes.len() / 2) {
         area[i] = number_at(bytes, 2 * i);
-        i += 1;
     }
 }
 
@@ -42,12 +27,9 @@ pub fn read_area(bytes: &[u8], area: &mut [u16])
 pub fn write_area(area: &[u16], bytes: &mut [u8])
     ensures { bytes.new ≡ over_bytes area.now bytes.old }
 {
-    let n = lower(area.len(), bytes.len() / 2);
-    let mut i = 0;
-    while i < n {
-        let number = area[i];
-        bytes[2 * i] = (number % 256) as u8;
-        bytes[2 * i + 1] = (number / 256) as u8;
-        i += 1;
+    for i in 0..(bytes.len() / 2).min(area.len()) {
+        let [low, high] = area[i].to_le_bytes();
+        bytes[2 * i] = low;
+        bytes[2 * i + 1] = high;
     }
 }

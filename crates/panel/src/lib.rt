@@ -11,8 +11,9 @@ ghost use Rattle.coded_conversions.specs.Coded.{ConversionCoded};
 ghost use Rattle.codes.specs.Encoded.{coded, coded_counts, coded_margin, coded_primary};
 ghost use Rattle.fronts.specs.Fronts.{lent_bytes};
 ghost use Rattle.coded_updates.specs.Updated.{coded_by, OutcomeBytes};
-ghost use Rattle.front_enquiries.specs.Enquired.{EnquiryBytes};
+ghost use Rattle.enquiries.specs.Enquired.{EnquiryBytes};
 
+use model::Notice;
 use updates::Update;
 
 // Checks a file.
@@ -20,7 +21,7 @@ use updates::Update;
 pub extern "C" fn ttg_check(file: &[u8]) -> u64
     ensures { result ≡ coded_counts (checked_answer file.now) }
 {
-    codes::code_counts(acceptance::check(file))
+    codes::code(acceptance::check(file))
 }
 
 // An empty notice area and the graph without notices.
@@ -48,7 +49,12 @@ pub extern "C" fn ttg_post(
         (posted (day_of file.now) (lent_bytes notices.old graph.old) number ride delay))
         notices.old graph.old result notices.new graph.new }
 {
-    updates::update_bytes(file, notices, graph, Update::Post(number, ride, delay))
+    let notice = Notice {
+        number,
+        connection: ride,
+        delay,
+    };
+    updates::update_bytes(file, notices, graph, Update::Post(notice))
 }
 
 // A notice withdrawn.

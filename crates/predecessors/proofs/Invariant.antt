@@ -11,7 +11,7 @@ use Prim.Native.Nat.{ℕ, suc, ◌+◌, ◌-◌, min, ◌<◌, ◌≤◌}
 use native.Mathlib.Numerals.{add-one}
 use native.Mathlib.Omega.{arith}
 use borrow.Author.Tests.{lt-ltb, ltb-true}
-use lib.ListN.{length, get_or, replicate, length-replicate, get_or-replicate}
+use lib.ListN.{length, get_or}
 use lib.Seq.{ext_get_or}
 use Rattle.model.specs.Least.{none, key}
 use Rattle.model.specs.Network.{Network, Sound}
@@ -51,18 +51,6 @@ module _ (net : Network) (a t : ℕ) (place : ℕ → ℕ) where
     pub past : (c : ℕ) → c < net.connections → place c < i → get_or work c none ≡ pred net a t c
     pub offers : (c : ℕ) → c < net.connections → i ≤ place c → get_or work c none < none → Offer c (get_or work c none)
     pub collected : (c e : ℕ) → c < net.connections → i ≤ place c → place e < i → Offer c e → Clear i e c → get_or work c none ≤ e
-
-  -- the start: nothing is collected
-  pub swept_cleared : (work : List ℕ) (m : ℕ) → work ≡ replicate m none → m ≡ net.connections → Swept 0 work
-  swept_cleared work m e q =
-      let h : (c : ℕ) → c < n → get_or work c none ≡ none = λ c l. rw e (get_or-replicate m c none none (omega arith)) in
-      record {
-        long = rw (e, length-replicate m none) q;
-        bounded = λ c l. omega (arith, h c l);
-        past = λ c l r. absurd (omega arith);
-        offers = λ c l r s. absurd (omega (arith, h c l));
-        collected = λ c e l r k. absurd (omega arith);
-      }
 
   -- a place that is no connection's
   swept_skip : (i : ℕ) (work : List ℕ) → ((c : ℕ) → c < n → place c ≡ i → ⊥) → Swept i work → Swept (suc i) work

@@ -6,11 +6,10 @@ use mathlib.Core.List.{[]}
 use Prim.Native.Nat.{ℕ, ◌<◌, ◌≤◌}
 use native.Mathlib.Omega.{arith}
 use lib.Dec.{ltb, leb}
-use Rattle.timetable.specs.Answers.{refuse_if}
-use Rattle.timetable.specs.declared.Verdict.TheVariants.{Passed, Refused}
+use Rattle.refusals.specs.Answers.{refuse_if, Passed, Refused}
 use Rattle.timetable.proofs.Tests.{below, at_most, either}
 use Rattle.timetable.proofs.Order.{Rule, rule, pass, stop}
-use Rattle.model.specs.RefusalNumber as refusal
+use Rattle.refusals.specs.RefusalNumber as refusal
 use Rattle.model.specs.Network.{last_expected}
 use Rattle.model.specs.Parts.{asked_verdict, enquiry_asks}
 

@@ -3,14 +3,13 @@ use mathlib.Core.Path.{◌≡◌, refl, sym, ◌∙◌}
 use mathlib.Core.List.{List}
 use Prim.Native.Nat.{ℕ, ◌≤◌}
 use lib.ListN.{length}
-use Rattle.timetable.specs.Answers.{or_else}
+use Rattle.refusals.specs.Answers.{or_else, Passed, Refused}
 use Rattle.timetable.specs.File.{connections}
 use Rattle.timetable.specs.Accepted.{Timetable}
-use Rattle.timetable.specs.declared.Verdict.TheVariants.{Passed, Refused}
 use Rattle.timetable.proofs.Accepted.{accepted_iff}
 use Rattle.timetable.proofs.Tests.{below}
 use Rattle.timetable.proofs.Order.{else_passed, Rule, rule, pass, stop, passes}
-use Rattle.model.specs.RefusalNumber as refusal
+use Rattle.refusals.specs.RefusalNumber as refusal
 use Rattle.model.specs.Day.{Day, Areas}
 use Rattle.model.specs.Parts.{needs, part_verdict, verdict, areas_room, enquiry_room, room_verdict}
 use Rattle.model.specs.Ready.{Ready}

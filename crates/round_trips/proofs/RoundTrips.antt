@@ -8,11 +8,10 @@ use lib.ListN.{length, take}
 use Rattle.numbers.specs.Numbers.{numbers_of}
 use Rattle.numbers.proofs.Areas.{Bytes}
 use Rattle.numbers.proofs.Bytes.{numbers_bytes}
-use Rattle.timetable.specs.Answers.{accepted}
+use Rattle.refusals.specs.Answers.{accepted, Passed}
 use Rattle.timetable.specs.File.{stops, connections}
 use Rattle.timetable.specs.Check.{max_stops, max_connections, file_verdict}
 use Rattle.timetable.specs.Accepted.{Timetable}
-use Rattle.timetable.specs.declared.Verdict.TheVariants.{Passed}
 use Rattle.timetable.proofs.Order.{else_passed}
 use Rattle.timetable.proofs.Accepted.{accepted_iff}
 use Rattle.gtfs.specs.Feed.{connections_of, text_verdict}

@@ -10,7 +10,7 @@ use borrow.Author.Tests.{eqb-true, eqb-false, eq-eqb, ne_eqb, lt-ltb}
 use lib.Dec.{ltb, eqb}
 use Rattle.timetable.specs.File.{connections, trip, stays_aboard}
 use Rattle.timetable.specs.Accepted.{Timetable}
-use Rattle.timetable.specs.declared.Verdict.TheVariants.{Passed}
+use Rattle.refusals.specs.Answers.{Passed}
 use Rattle.timetable.proofs.Tests.{by_bool, or_left, or_right, and_both}
 use Rattle.cuts.proofs.Cut.{starts_with_lem}
 use Rattle.gtfs.specs.declared.StopTime.{StopTime}

@@ -7,11 +7,10 @@ use native.Mathlib.Nat.{sub-zero}
 use native.Mathlib.Numerals.{add-one}
 use native.Mathlib.Omega.{arith}
 use lib.ListN.{drop}
-use Rattle.timetable.specs.Answers.{refuse_if, or_else}
-use Rattle.timetable.specs.declared.Verdict.{Verdict}
-use Rattle.timetable.specs.declared.Verdict.TheVariants.{Passed, Refused}
-use Rattle.model.specs.Notices.{Notice, width, room, count_in, rows_of, cut, stands_right, unused_right, rows_from, standing_verdict, unused_verdict}
-use Rattle.model.specs.RefusalNumber as refusal
+use Rattle.refusals.specs.Answers.{refuse_if, or_else, Verdict, Passed, Refused}
+use Rattle.model.specs.Notices.{width, room, count_in, rows_of, cut, stands_right, unused_right, rows_from, standing_verdict, unused_verdict}
+use Rattle.model.specs.declared.Notice.{Notice}
+use Rattle.refusals.specs.RefusalNumber as refusal
 use Rattle.model.proofs.Areas.{row_of, cut_more}
 use Rattle.model.proofs.Rows.{unused_after, before_any}
 

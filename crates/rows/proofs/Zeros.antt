@@ -6,7 +6,7 @@ use Prim.Native.Nat.{ℕ, suc, ◌+◌, ◌*◌, ◌-◌, ◌≤◌, ◌<◌}
 use native.Mathlib.Omega.{arith}
 use lib.ListN.{length, get_or, take, drop, replicate, length-take, length-drop, length-replicate, get_or-replicate}
 use borrow.Rule.Slice.PartMut.{mid_of}
-use Rattle.timetable.specs.declared.Verdict.TheVariants.{Passed}
+use Rattle.refusals.specs.Answers.{Passed}
 use Rattle.model.specs.Notices.{width, room, notices_length, unused_row, numbers_in, row_at, cut, count_in, unused_right, unused_verdict}
 use Rattle.model.specs.Drawn.{same}
 use Rattle.model.proofs.ByCases.{same_test}

@@ -1,48 +1,51 @@
 // The check of a notice area's rows: refusal 23.
 #![tactic(auto)]
 
-ghost use Rattle.std.specs.Prelude.{◌≡◌, ◌≤◌, length};
-ghost use Rattle.model.specs.Notices.{notice, notices_length, stands_right, standing_verdict, unused_verdict, rows_verdict};
+ghost use Rattle.std.specs.Prelude.{◌≡◌, ◌+◌, ◌≤◌, length, drop};
+ghost use Rattle.refusals.specs.Answers.{verdict_of};
+ghost use Rattle.model.specs.Notices.{width, row_at, notices_length, stands_right, standing_verdict, unused_verdict, rows_verdict};
 ghost use Rattle.rows.specs.Rows.{CountFits, all_zero};
 
-use model::refusal::WRONG_ROW;
-use model::{LEAST_DELAY, MOST_STANDING, NOTICES_LENGTH, ROOM, WIDTH};
-use timetable::Verdict;
+use model::{LEAST_DELAY, MOST_STANDING, NOTICES_LENGTH, Notice, ROOM, WIDTH};
+use refusals::{Reason, Refusal};
+
+// The row whose numbers start at a place.
+fn row_at(area: &[u16], at: usize) -> Notice
+    requires { at + width ≤ length area.now }
+    ensures { result ≡ row_at (drop at area.now) }
+{
+    Notice {
+        number: area[at],
+        connection: area[at + 1],
+        delay: area[at + 2],
+    }
+}
 
 // Whether a row may stand after a row of the number before.
-fn stands_right(n: u16, before: u16, number: u16, connection: u16, delay: u16) -> bool
-    ensures { result ≡ stands_right n before (notice number connection delay) }
+#[tactic(auto, unfolding(model::specs::Notices::stands_right))]
+fn stands_right(n: usize, before: u16, row: Notice) -> bool
+    ensures { result ≡ stands_right n before row }
 {
-    if before < number {
-        if connection < n {
-            if LEAST_DELAY <= delay {
-                return delay <= MOST_STANDING;
-            }
-        }
-    }
-    false
+    before < row.number
+        && (row.connection as usize) < n
+        && LEAST_DELAY <= row.delay
+        && row.delay <= MOST_STANDING
 }
 
 // Refusal 23 of the rows that stand.
-fn check_standing(notices: &[u16], n: u16) -> Verdict
+fn check_standing(notices: &[u16], n: usize) -> Result<(), Refusal>
     requires { CountFits notices.now }
-    ensures { result ≡ standing_verdict n notices.now }
+    ensures { verdict_of result ≡ standing_verdict n notices.now }
 {
-    let count = notices[0];
-    let mut before: u16 = 0;
-    let mut k: u16 = 0;
-    while k < count {
-        let at = 1 + WIDTH * (k as usize);
-        let number = notices[at];
-        let connection = notices[at + 1];
-        let delay = notices[at + 2];
-        k += 1;
-        if !stands_right(n, before, number, connection, delay) {
-            return Verdict::Refused(WRONG_ROW, k);
+    let mut before = 0;
+    for k in 0..notices[0] {
+        let row = row_at(notices, 1 + WIDTH * k as usize);
+        if !stands_right(n, before, row) {
+            return Err(Refusal(Reason::WrongRow, k + 1));
         }
-        before = number;
+        before = row.number;
     }
-    Verdict::Passed
+    Ok(())
 }
 
 // Whether all numbers are 0. Every number is looked at, so that several are looked at once.
@@ -50,59 +53,48 @@ fn all_zero(xs: &[u16]) -> bool
     ensures { result ≡ all_zero xs.now }
 {
     let mut all = true;
-    let mut i = 0;
-    while i < xs.len() {
-        if xs[i] != 0 {
+    for x in xs {
+        if *x != 0 {
             all = false;
         }
-        i += 1;
     }
     all
 }
 
 // Refusal 23 of the other rows, one by one.
-fn first_used(notices: &[u16]) -> Verdict
+fn first_used(notices: &[u16]) -> Result<(), Refusal>
     requires { CountFits notices.now }
-    ensures { result ≡ unused_verdict notices.now }
+    ensures { verdict_of result ≡ unused_verdict notices.now }
 {
-    let mut k = notices[0];
-    while k < ROOM {
-        let at = 1 + WIDTH * (k as usize);
-        let end = at + WIDTH;
-        k += 1;
-        if !all_zero(&notices[at..end]) {
-            return Verdict::Refused(WRONG_ROW, k);
+    for k in notices[0]..ROOM {
+        let at = 1 + WIDTH * k as usize;
+        if !all_zero(&notices[at..at + WIDTH]) {
+            return Err(Refusal(Reason::WrongRow, k + 1));
         }
     }
-    Verdict::Passed
+    Ok(())
 }
 
 // Refusal 23 of the other rows: all at once, and one by one for the place of the first wrong one.
-fn check_unused(notices: &[u16]) -> Verdict
+fn check_unused(notices: &[u16]) -> Result<(), Refusal>
     requires { CountFits notices.now }
-    ensures { result ≡ unused_verdict notices.now }
+    ensures { verdict_of result ≡ unused_verdict notices.now }
 {
-    let start = 1 + WIDTH * (notices[0] as usize);
+    let start = 1 + WIDTH * notices[0] as usize;
     if all_zero(&notices[start..NOTICES_LENGTH]) {
-        return Verdict::Passed;
+        return Ok(());
     }
     first_used(notices)
 }
 
 // Refusal 23 of a notice area, with its place.
-pub fn check_rows(notices: &[u16], n: u16) -> Verdict
+pub fn check_rows(notices: &[u16], n: usize) -> Result<(), Refusal>
     requires { notices_length ≤ length notices.now }
-    ensures { result ≡ rows_verdict n notices.now }
+    ensures { verdict_of result ≡ rows_verdict n notices.now }
 {
     if ROOM < notices[0] {
-        return Verdict::Refused(WRONG_ROW, 0);
+        return Err(Refusal(Reason::WrongRow, 0));
     }
-    let verdict = check_standing(notices, n);
-    match verdict {
-        Verdict::Refused(number, place) => {
-            return Verdict::Refused(number, place);
-        }
-        Verdict::Passed => {}
-    }
+    check_standing(notices, n)?;
     check_unused(notices)
 }

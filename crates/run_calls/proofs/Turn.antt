@@ -6,9 +6,9 @@ use Prim.Native.Nat.{ℕ, zero, suc, ◌+◌, ◌*◌, ◌-◌, ◌≤◌, ◌<�
 use native.Mathlib.Nat.{sub-zero, add-zero}
 use native.Mathlib.Numerals.{add-one}
 use native.Mathlib.Omega.{arith}
-use lib.ListN.{length, get_or, take, drop, set, length-append, length-take, length-set, take-append-drop}
+use lib.ListN.{length, get_or, take, drop, set, length-append, length-take, take-append-drop}
 use lib.Seq.{drop-drop, get_or-drop, drop-set-lt, sets-eq, take_at}
-use Rattle.timetable.specs.Answers.{Answer}
+use Rattle.refusals.specs.Answers.{Answer}
 use Rattle.model.specs.Register.{Call}
 use Rattle.model.specs.Operations.{outcome}
 use Rattle.model.specs.Day.{Day, Areas}
@@ -43,9 +43,6 @@ length_told (a ∷ more) = omega (arith, length_told more)
 
 -- an answer's two numbers stored
 module _ (xs : List ℕ) (at x y : ℕ) where
-  pub length_pair : length (set (set xs at x) (at + 1) y) ≡ length xs
-  length_pair = simp length-set
-
   take_pair : at + answer_width ≤ length xs → take (at + answer_width) (set (set xs at x) (at + 1) y) ≡ take at xs ++ (x ∷ y ∷ [])
   take_pair h =
       let p : set (set xs at x) (at + 1) y ≡ take at xs ++ (x ∷ y ∷ []) ++ drop (at + answer_width) xs = rw add-one (sets-eq (x ∷ y ∷ []) xs at h) in

@@ -1,6 +1,6 @@
 -- A run's calls and answers as lists of numbers, those of the first call before those of the second. Assumes nothing.
 use Rattle.std.specs.Prelude.{List, [], ◌∷◌, ℕ, zero, suc, ◌/◌, min, length, get_or, drop}
-use Rattle.timetable.specs.Answers.{Answer}
+use Rattle.refusals.specs.Answers.{Answer}
 use Rattle.model.specs.Register.{Call}
 use Rattle.run_steps.specs.Step.{call_of, answer_number, answer_value}
 

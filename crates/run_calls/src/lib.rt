@@ -1,7 +1,6 @@
 // A list of postings and withdrawals, worked one after the other.
 #![tactic(auto)]
 
-ghost use Rattle.std.specs.Prelude.{◌≡◌, min};
 ghost use Rattle.model.specs.Day.{day_of, lent};
 ghost use Rattle.model.specs.Runs.{ran};
 ghost use Rattle.run_calls.specs.Calls.{calls_worked};
@@ -12,17 +11,8 @@ const CALL_WIDTH: usize = 4;
 
 const ANSWER_WIDTH: usize = 2;
 
-// The lesser of two numbers.
-fn lesser(a: usize, b: usize) -> usize
-    ensures { result ≡ min a b }
-{
-    if a < b {
-        return a;
-    }
-    b
-}
-
-// The calls, one after the other; as many are worked as both slices hold.
+// The calls, one after the other; as many are worked as both slices hold. By index: `chunks_exact_mut` was tried, and left open which
+// numbers the answers hold after the loop.
 pub fn work_all(
     file: &[u8],
     notices: &mut [u16],
@@ -37,9 +27,8 @@ pub fn work_all(
         (lent notices.new graph.new)
         answers.new }
 {
-    let n = lesser(calls.len() / CALL_WIDTH, answers.len() / ANSWER_WIDTH);
-    let mut k = 0;
-    while k < n {
+    let n = (calls.len() / CALL_WIDTH).min(answers.len() / ANSWER_WIDTH);
+    for k in 0..n {
         let at = CALL_WIDTH * k;
         let kind = calls[at];
         let number = calls[at + 1];
@@ -50,6 +39,5 @@ pub fn work_all(
         let second = run_steps::value_of(noted);
         answers[ANSWER_WIDTH * k] = first;
         answers[ANSWER_WIDTH * k + 1] = second;
-        k += 1;
     }
 }

@@ -1,7 +1,7 @@
 -- A call of a run and its answer as numbers: a call is four (0 for a posting, anything else for a withdrawal; the number, the
 -- connection and the delay), an answer two (0 and the notice's number, or the refusal's number and place). Assumes nothing.
 use Rattle.std.specs.Prelude.{cond, ℕ, eqb}
-use Rattle.timetable.specs.Answers.{Answer, accepted, refused}
+use Rattle.refusals.specs.Answers.{Answer, accepted, refused}
 use Rattle.model.specs.Register.{Call, posting, withdrawal}
 
 -- the call of these numbers; a withdrawal reads two of them

@@ -5,12 +5,12 @@ ghost use Rattle.std.specs.Prelude.{◌≡◌};
 ghost use Rattle.model.specs.Operations.{outcome};
 ghost use Rattle.model.specs.Day.{day_of, lent};
 ghost use Rattle.model.specs.Runs.{called};
-ghost use Rattle.graph.specs.Answers.{told_number};
+ghost use Rattle.refusals.specs.Answers.{told};
 ghost use Rattle.run_steps.specs.Step.{call_of, answer_number, answer_value};
 
-use graph::Noted;
+use refusals::Refusal;
 
-// The first number of a posting.
+// The first number of a posting: a run's calls are numbers, as `runs::run` takes them.
 const POSTING: u16 = 0;
 
 // One call.
@@ -22,32 +22,32 @@ pub fn work_call(
     number: u16,
     connection: u16,
     delay: u16,
-) -> Noted
-    ensures { outcome (told_number result) (lent notices.new graph.new)
+) -> Result<u16, Refusal>
+    ensures { outcome (told result) (lent notices.new graph.new)
         ≡ called (day_of file.now) (lent notices.old graph.old) (call_of kind number connection delay) }
 {
-    if kind == POSTING {
-        return graph::post(file, notices, graph, number, connection, delay);
+    match kind {
+        POSTING => graph::post(file, notices, graph, number, connection, delay),
+        _ => graph::withdraw(file, notices, graph, number),
     }
-    graph::withdraw(file, notices, graph, number)
 }
 
 // The first number of an answer: 0, or the refusal's number.
-pub fn number_of(noted: Noted) -> u16
-    ensures { result ≡ answer_number (told_number noted) }
+pub fn number_of(noted: Result<u16, Refusal>) -> u16
+    ensures { result ≡ answer_number (told noted) }
 {
     match noted {
-        Noted::Accepted(_) => 0,
-        Noted::Refused(number, _) => number,
+        Ok(_) => 0,
+        Err(Refusal(reason, _)) => reason as u16,
     }
 }
 
 // The second number of an answer: the notice's number, or the refusal's place.
-pub fn value_of(noted: Noted) -> u16
-    ensures { result ≡ answer_value (told_number noted) }
+pub fn value_of(noted: Result<u16, Refusal>) -> u16
+    ensures { result ≡ answer_value (told noted) }
 {
     match noted {
-        Noted::Accepted(number) => number,
-        Noted::Refused(_, place) => place,
+        Ok(number) => number,
+        Err(Refusal(_, place)) => place,
     }
 }

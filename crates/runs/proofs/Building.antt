@@ -3,8 +3,8 @@ use mathlib.Core.Path.{◌≡◌, ap, sym, ◌∙◌}
 use mathlib.Core.List.{List, ◌++◌}
 use Prim.Native.Nat.{ℕ, ◌*◌}
 use lib.ListN.{length, drop}
-use Rattle.timetable.specs.Answers.{accepted, refused}
-use Rattle.timetable.specs.Check.{Counts}
+use Rattle.refusals.specs.Answers.{accepted, refused}
+use Rattle.timetable.specs.declared.Counts.{Counts}
 use Rattle.model.specs.Day.{Day, Areas}
 use Rattle.model.specs.Operations.{Outcome, outcome, built}
 use Rattle.model.specs.Register.{Call}

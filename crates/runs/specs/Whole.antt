@@ -1,7 +1,7 @@
 -- What a whole run promises: what the definition of the run gives, and the claim about whole runs. Assumes nothing.
 use Rattle.std.specs.Prelude.{◌≡◌, List, ◌++◌, ℕ, ◌*◌, length, drop}
-use Rattle.timetable.specs.Answers.{Answer, accepted}
-use Rattle.timetable.specs.Check.{Counts}
+use Rattle.refusals.specs.Answers.{Answer, accepted}
+use Rattle.timetable.specs.declared.Counts.{Counts}
 use Rattle.model.specs.Day.{Day, Areas}
 use Rattle.model.specs.Register.{Call}
 use Rattle.model.specs.Runs.{Run, run_of, register_of, Held}

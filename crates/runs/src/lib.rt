@@ -1,11 +1,12 @@
 // Whole runs: building, then a list of postings and withdrawals.
 #![tactic(auto)]
 
-ghost use Rattle.timetable.specs.Check.{told_counts};
+ghost use Rattle.refusals.specs.Answers.{told};
 ghost use Rattle.model.specs.Day.{day_of, lent};
 ghost use Rattle.runs.specs.Whole.{Whole};
 
-use timetable::Checked;
+use refusals::Refusal;
+use timetable::Counts;
 
 // Building, then a list of postings and withdrawals, each worked by the library's own `post` and `withdraw` on both areas as
 // the call before left them. A call is four numbers (0 for a posting with number, connection, delay; anything else for a
@@ -17,20 +18,14 @@ pub fn run(
     graph: &mut [u16],
     calls: &[u16],
     answers: &mut [u16],
-) -> Checked
+) -> Result<Counts, Refusal>
     ensures { Whole (day_of file.now) (lent notices.old graph.old)
         calls.now answers.old
-        (told_counts result)
+        (told result)
         (lent notices.new graph.new)
         answers.new }
 {
-    let building = graph::build(file, notices, graph);
-    match building {
-        Checked::Refused(_, _) => {
-            return building;
-        }
-        Checked::Accepted(_, _) => {}
-    }
+    let counts = graph::build(file, notices, graph)?;
     run_calls::work_all(file, notices, graph, calls, answers);
-    building
+    Ok(counts)
 }

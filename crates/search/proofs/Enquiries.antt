@@ -5,11 +5,10 @@ use Prim.Native.Nat.{ℕ, ◌*◌, ◌<◌, ◌≤◌}
 use native.Mathlib.Omega.{arith}
 use lib.ListN.{length, take, drop}
 use lib.Seq.{take_at}
-use Rattle.timetable.specs.Answers.{Answer, refused, or_else}
+use Rattle.refusals.specs.Answers.{Answer, refused, or_else, Passed, Refused}
 use Rattle.timetable.specs.File.{stops, connections}
 use Rattle.timetable.specs.Check.{file_verdict, max_connections}
 use Rattle.timetable.specs.Accepted.{Timetable}
-use Rattle.timetable.specs.declared.Verdict.TheVariants.{Passed, Refused}
 use Rattle.timetable.proofs.Accepted.{accepted_iff}
 use Rattle.timetable.proofs.Order.{else_assoc}
 use Rattle.model.specs.Network.{last_expected}
@@ -17,37 +16,52 @@ use Rattle.model.specs.Graph.{departure_in}
 use Rattle.model.specs.Predecessors.{predecessors}
 use Rattle.model.specs.Day.{Day, Areas}
 use Rattle.model.specs.Parts.{Ask, asked_verdict, part_verdict, verdict, enquiry_room, enquiry_asks}
-use Rattle.model.specs.Operations.{Arrival, Enquiry, enquiry, searched, enquiry_parts, enquired}
-use Rattle.model.specs.Shown.{shown, Readable}
+use Rattle.model.specs.Operations.{Enquiry, enquiry, searched, enquiry_parts, enquired}
+use Rattle.model.specs.declared.Arrival.{Arrival}
+use Rattle.model.specs.Shown.{shown}
 use Rattle.model.proofs.Parts.{call_chain}
-use Rattle.model.proofs.Shown.{readable_room, searched_shown}
+use Rattle.model.proofs.Shown.{searched_shown}
 use Rattle.model.proofs.Rounds.{length_predecessors}
 use Rattle.model.proofs.Enquiries.{enquiry_means}
+use Rattle.graph.specs.declared.Network.{Network}
 use Rattle.journeys.specs.Reading.{read_out}
 use Rattle.search.specs.Answered.{Answered}
 use Rattle.requests.specs.Lent.{lent_verdict}
 use Rattle.requests.proofs.Room.{room_parts, lent_ready}
 
--- the departures of areas that can be read can be sorted
-pub sortable : (f graph : List ℕ) → Readable f graph → (n : ℕ) → n ≡ connections f
-    → (n ≤ max_connections) × (2 * n ≤ length graph) × ((c : ℕ) → c < n → departure_in graph c < last_expected)
-sortable f graph r n q =
-    let s = r.sound in (
-      omega (arith, s.few),
-      omega (arith, readable_room f graph r),
-      λ c h. let l : c < connections f = rw q at h in omega (arith, s.forward c l, s.early c l),
+-- the departures of a network can be sorted
+pub sortable : (v : Network) → let n = v.shown.timetable.connections in
+    (n ≤ max_connections) × (2 * n ≤ length v.shown.graph.now) × ((c : ℕ) → c < n → departure_in v.shown.graph.now c < last_expected)
+sortable v =
+    let o = v.shown.timetable.opened in
+    let s = v.shown.sound in (
+      omega (arith, s.few, o.connections),
+      omega (arith, v.shown.room, o.connections),
+      λ c h. let l : c < connections v.shown.timetable.file.now = omega (arith, o.connections) in omega (arith, s.forward c l, s.early c l),
     )
 
-module _ (f graph work : List ℕ) (a t : ℕ) (filled : List ℕ)
-    (e : filled ≡ predecessors (shown f graph) a t ++ drop (connections f) work) where
+module _ (v : Network) (work : List ℕ) (a t : ℕ) (filled : List ℕ)
+    (e : filled ≡ predecessors (shown v.shown.timetable.file.now v.shown.graph.now) a t ++ drop v.shown.timetable.connections work) where
+  abbrev f : List ℕ
+  f = v.shown.timetable.file.now
+
+  abbrev graph : List ℕ
+  graph = v.shown.graph.now
+
+  filled_is : filled ≡ predecessors (shown f graph) a t ++ drop (connections f) work
+  filled_is = e ∙ ap (λ (n : ℕ). predecessors (shown f graph) a t ++ drop n work) v.shown.timetable.opened.connections
+
+  begins : take (connections f) filled ≡ predecessors (shown f graph) a t
+  begins = ap (take (connections f)) filled_is ∙ take_at _ _ _ (length_predecessors (shown f graph) a t)
+
   -- the predecessors that were filled in
-  pub front : take (connections f) filled ≡ predecessors (shown f graph) a t
-  front = ap (take (connections f)) e ∙ take_at _ _ _ (length_predecessors (shown f graph) a t)
+  pub front : take v.shown.timetable.connections filled ≡ predecessors (shown f graph) a t
+  front = ap (λ (n : ℕ). take n filled) v.shown.timetable.opened.connections ∙ begins
 
   -- what is read out of them is what is searched for
   pub searched_read : (b : ℕ) (journey : List ℕ)
       → read_out (shown f graph) filled journey a b t ≡ searched Passed (shown f graph) a b t work journey
-  searched_read b journey = rw (front, e)
+  searched_read b journey = rw (begins, filled_is)
 
 module _ (day : Day) (areas : Areas) (work journey : List ℕ) where
   module _ (timetable : Timetable day.file) where

@@ -1,9 +1,10 @@
 -- What an enquiry promises: the answer and the areas afterwards, and what the answer means. Assumes nothing.
 use Rattle.std.specs.Prelude.{◌≡◌, List, ℕ}
-use Rattle.timetable.specs.Answers.{Answer}
+use Rattle.refusals.specs.Answers.{Answer}
 use Rattle.model.specs.Day.{Day, Areas}
 use Rattle.model.specs.Drawn.{network_by}
-use Rattle.model.specs.Operations.{Arrival, enquiry, enquired}
+use Rattle.model.specs.Operations.{enquiry, enquired}
+use Rattle.model.specs.declared.Arrival.{Arrival}
 use Rattle.model.specs.Meaning.{Means}
 
 -- the answer to an enquiry from stop a to stop b at time t, with work and journey afterwards

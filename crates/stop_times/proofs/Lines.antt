@@ -1,52 +1,46 @@
 -- A line of a text read column by column: one that is read leaves the rest of the line, and with one that is not the line is wrong.
 -- Assumes nothing.
-use mathlib.Core.Path.{◌≡◌, refl, sym, ap, ◌∙◌}
+use mathlib.Core.Path.{◌≡◌, refl, ap, ◌∙◌}
 use mathlib.Core.Bool.{Bool, true, false, cond}
 use mathlib.Core.List.{List, [], ◌∷◌, ◌++◌}
 use Prim.Native.Nat.{ℕ, ◌+◌}
 use native.Mathlib.Omega.{arith}
 use lib.ListN.{length, drop, length-append}
 use Rattle.decimals.specs.Bytes.{newline}
-use Rattle.decimals.specs.declared.Number.{Number}
-use Rattle.decimals.specs.declared.Number.TheVariants as N
+use Rattle.std.proofs.Common.{Option, Some, None}
+use Rattle.gtfs.specs.declared.StopTime.{StopTime}
 use Rattle.cuts.specs.Cut.{has, before, after}
 use Rattle.gtfs.specs.StopTimes.{comma}
-use Rattle.gtfs.specs.declared.Row.{Row}
-use Rattle.gtfs.specs.declared.Row.TheVariants as R
 use Rattle.cuts.proofs.Cut.{cut_whole, before_without, before_end, after_end, after_none, has_either, before_first, before_second}
 use Rattle.cuts.proofs.Pieces.{piece_after}
-use Rattle.stop_times.specs.Columns.{line_of, column_of}
-use Rattle.stop_times.specs.declared.Column.{Column}
-use Rattle.stop_times.specs.declared.Column.TheVariants as C
-use Rattle.stop_times.specs.declared.Line.{Line}
-use Rattle.stop_times.specs.declared.Line.TheVariants as L
+use Rattle.stop_times.specs.Columns.{with_next, column_of}
 use Rattle.stop_times.proofs.Columns.{column_read, column_unread}
 
 -- what is left of a line at a place of a text, of which a function makes the row
-abbrev pub line_from : (List ℕ → Row) → List ℕ → ℕ → Line
-line_from row rest at = let line = before newline rest in cond (has newline rest) (line_of (row line) (at + length line + 1)) L.Wrong
+abbrev pub line_from : (List ℕ → Option StopTime) → List ℕ → ℕ → Option (StopTime × ℕ)
+line_from row rest at = let line = before newline rest in cond (has newline rest) (with_next (row line) (at + length line + 1)) None
 
 -- it is wrong unless a newline ends it and it is a row
-line_wrong : (ended : Bool) (row : Row) (next : ℕ) → (ended ≡ true → row ≡ R.Unreadable) → cond ended (line_of row next) L.Wrong ≡ L.Wrong
+line_wrong : (ended : Bool) (row : Option StopTime) (next : ℕ) → (ended ≡ true → row ≡ None) → cond ended (with_next row next) None ≡ None
 line_wrong true row next h = rw (h refl)
 line_wrong false row next h = refl
 
 -- a reader that reads no word with a newline
-abbrev pub OneLine : (List ℕ → Number) → Type 0
-OneLine read = (w : List ℕ) (n : ℕ) → read w ≡ N.Is n → has newline w ≡ false
+abbrev pub OneLine : (List ℕ → Option ℕ) → Type 0
+OneLine read = (w : List ℕ) (n : ℕ) → read w ≡ Some n → has newline w ≡ false
 
 -- a row that is none without a column or with nothing after it
-pub record Needed (row : Number → List ℕ → Row) : Type 0 where
-  pub unread : (line : List ℕ) → row N.Unread line ≡ R.Unreadable
-  pub missing : (n : ℕ) → row (N.Is n) [] ≡ R.Unreadable
+pub record Needed (row : Option ℕ → List ℕ → Option StopTime) : Type 0 where
+  pub unread : (line : List ℕ) → row None line ≡ None
+  pub missing : (n : ℕ) → row (Some n) [] ≡ None
 
-nothing_after : {row : Number → List ℕ → Row} → Needed row → (number : Number) → row number [] ≡ R.Unreadable
-nothing_after needed (N.Is n) = needed.missing n
-nothing_after needed N.Unread = needed.unread []
+nothing_after : {row : Option ℕ → List ℕ → Option StopTime} → Needed row → (number : Option ℕ) → row number [] ≡ None
+nothing_after needed (Some n) = needed.missing n
+nothing_after needed None = needed.unread []
 
 -- a column that a comma ends, and the rest of the line
-module _ (read : List ℕ → Number) (row : Number → List ℕ → Row) where
-  abbrev pub column_then : List ℕ → Row
+module _ (read : List ℕ → Option ℕ) (row : Option ℕ → List ℕ → Option StopTime) where
+  abbrev pub column_then : List ℕ → Option StopTime
   column_then line = row (read (before comma line)) (after comma line)
 
   -- a word and its comma in front of the rest
@@ -67,52 +61,47 @@ module _ (read : List ℕ → Number) (row : Number → List ℕ → Row) where
 
   -- a line with its newline in front of a text whose first column is not read: that is the line's own, or the line has no comma
   line_unread : (line text : List ℕ)
-      → (has comma (line ++ newline ∷ text) ≡ true → read (before comma (line ++ newline ∷ text)) ≡ N.Unread)
-      → Needed row → (b : Bool) → has comma line ≡ b → column_then line ≡ R.Unreadable
+      → (has comma (line ++ newline ∷ text) ≡ true → read (before comma (line ++ newline ∷ text)) ≡ None)
+      → Needed row → (b : Bool) → has comma line ≡ b → column_then line ≡ None
   line_unread line text u needed true h =
       let own = u (rw (has_either comma line (newline ∷ text), h)) in
       rw (rw (before_first comma line (newline ∷ text) h) at own) (needed.unread (after comma line))
   line_unread line text u needed false h = rw (after_none comma line h) (nothing_after needed (read (before comma line)))
 
-  module _ (text : List ℕ) (at : ℕ) {line : Line} (left : line ≡ line_from column_then (drop at text) at) {column : Column}
-      (found : column ≡ column_of read comma text at) where
-    pub read_then : {n next : ℕ} → OneLine read → column ≡ C.Is n next → line ≡ line_from (row (N.Is n)) (drop next text) next
+  module _ (text : List ℕ) (at : ℕ) where
+    pub read_then : {n next : ℕ} → OneLine read → column_of read comma text at ≡ Some (n, next)
+        → line_from column_then (drop at text) at ≡ line_from (row (Some n)) (drop next text) next
     read_then {n} one is =
         let rest = drop at text in
         let w = before comma rest in
-        let r = column_read read comma text at found is in
-        left
-        ∙ ap (λ t. line_from column_then t at) (cut_whole comma rest r.0)
+        let r = column_read read comma text at is in
+        ap (λ t. line_from column_then t at) (cut_whole comma rest r.0)
         ∙ word_then w (after comma rest) at (before_without comma rest) (one w n r.1)
         ∙ rw (r.1, r.2, piece_after comma text at (at + length w) refl)
 
-    pub unread_then : Needed row → column ≡ C.Unread → L.Wrong ≡ line
+    pub unread_then : Needed row → column_of read comma text at ≡ None → line_from column_then (drop at text) at ≡ None
     unread_then needed is =
         let rest = drop at text in
         let l = before newline rest in
-        sym
-        (left
-        ∙ line_wrong (has newline rest) (column_then l) (at + length l + 1)
+        line_wrong (has newline rest) (column_then l) (at + length l + 1)
         (λ (h : has newline rest ≡ true).
         line_unread
         l
         (after newline rest)
-        (rw (← cut_whole newline rest h) (column_unread read comma text at found is))
+        (rw (← cut_whole newline rest h) (column_unread read comma text at is))
         needed
         (has comma l)
-        refl))
+        refl)
 
 -- the last column, which the newline ends
-module _ (read : List ℕ → Number) (row : Number → Row) (text : List ℕ) (at : ℕ) {line : Line}
-    (left : line ≡ line_from (λ l. row (read l)) (drop at text) at) {column : Column} (found : column ≡ column_of read newline text at) where
-  pub last_read : {n next : ℕ} → column ≡ C.Is n next → line_of (row (N.Is n)) next ≡ line
-  last_read is = let r = column_read read newline text at found is in sym (left ∙ rw (r.0, r.1, r.2))
+module _ (read : List ℕ → Option ℕ) (row : Option ℕ → Option StopTime) (text : List ℕ) (at : ℕ) where
+  pub last_read : {n next : ℕ} → column_of read newline text at ≡ Some (n, next)
+      → line_from (λ l. row (read l)) (drop at text) at ≡ with_next (row (Some n)) next
+  last_read is = let r = column_read read newline text at is in rw (r.0, r.1, r.2)
 
-  pub last_unread : row N.Unread ≡ R.Unreadable → column ≡ C.Unread → L.Wrong ≡ line
+  pub last_unread : row None ≡ None → column_of read newline text at ≡ None → line_from (λ l. row (read l)) (drop at text) at ≡ None
   last_unread unread is =
       let rest = drop at text in
       let l = before newline rest in
-      sym
-      (left
-      ∙ line_wrong (has newline rest) (row (read l)) (at + length l + 1)
-      (λ (h : has newline rest ≡ true). rw (column_unread read newline text at found is h) unread))
+      line_wrong (has newline rest) (row (read l)) (at + length l + 1)
+      (λ (h : has newline rest ≡ true). rw (column_unread read newline text at is h) unread)

@@ -1,36 +1,32 @@
 -- The row of a line: its columns read one after the other, up to the first that cannot be read. Assumes nothing.
-use mathlib.Core.Path.{◌≡◌, refl}
+use mathlib.Core.Path.{◌≡◌, refl, sym}
 use mathlib.Core.List.{List}
 use Prim.Native.Nat.{ℕ}
 use native.Mathlib.Omega.{arith}
 use lib.ListN.{drop}
 use Rattle.decimals.specs.Bytes.{newline}
 use Rattle.decimals.specs.Decimal.{decimal}
-use Rattle.decimals.specs.declared.Number.{Number}
-use Rattle.decimals.specs.declared.Number.TheVariants as N
+use Rattle.std.proofs.Common.{Option, Some, None}
+use Rattle.gtfs.specs.declared.StopTime.{StopTime}
 use Rattle.cuts.specs.Cut.{before}
 use Rattle.gtfs.specs.Clock.{colon, time_of}
 use Rattle.gtfs.specs.StopTimes.{comma, row_from, row_of}
-use Rattle.gtfs.specs.declared.Row.{Row}
 use Rattle.cuts.proofs.Cut.{number_without}
 use Rattle.gtfs.proofs.Clock.{clock_without}
 use Rattle.stop_times.specs.Columns.{column_of, line_at}
-use Rattle.stop_times.specs.declared.Column.{Column}
-use Rattle.stop_times.specs.declared.Column.TheVariants as C
-use Rattle.stop_times.specs.declared.Line.TheVariants as L
 use Rattle.stop_times.proofs.Lines.{line_from, OneLine, column_then, read_then, unread_then, last_read, last_unread}
 
 -- the row of the columns that are read and of the rest of the line, from stop_sequence, the stop, the departure, the arrival on
-abbrev from_sequence : Number → Number → Number → Number → List ℕ → Row
+abbrev from_sequence : Option ℕ → Option ℕ → Option ℕ → Option ℕ → List ℕ → Option StopTime
 from_sequence trip arrival departure stop line = row_from trip arrival departure stop (decimal line)
 
-abbrev from_stop : Number → Number → Number → List ℕ → Row
+abbrev from_stop : Option ℕ → Option ℕ → Option ℕ → List ℕ → Option StopTime
 from_stop trip arrival departure = column_then decimal (from_sequence trip arrival departure)
 
-abbrev from_departure : Number → Number → List ℕ → Row
+abbrev from_departure : Option ℕ → Option ℕ → List ℕ → Option StopTime
 from_departure trip arrival = column_then time_of (from_stop trip arrival)
 
-abbrev from_arrival : Number → List ℕ → Row
+abbrev from_arrival : Option ℕ → List ℕ → Option StopTime
 from_arrival trip = column_then time_of (from_departure trip)
 
 -- neither a number nor a time has a newline
@@ -40,61 +36,81 @@ number_line_lem = number_without newline refl
 time_line : OneLine time_of
 time_line = clock_without newline refl (λ (e : newline ≡ colon). omega arith)
 
--- no row where a column cannot be read, and the row where all are
-module _ (text : List ℕ) (at : ℕ) {first : Column} (first_found : first ≡ column_of decimal comma text at) where
-  all_left : line_at text at ≡ line_from (column_then decimal from_arrival) (drop at text) at
-  unfolding row_of
-  all_left = refl
+-- what is left of a line at a place of a text when the columns before it are read
+unfoldable pub after_trip : ℕ → List ℕ → ℕ → Option (StopTime × ℕ)
+after_trip trip text a = line_from (from_arrival (Some trip)) (drop a text) a
 
-  pub no_trip : first ≡ C.Unread → L.Wrong ≡ line_at text at
-  unfolding time_of before
-  no_trip = unread_then decimal from_arrival text at all_left first_found (record { unread = λ line. refl; missing = λ n. refl })
+unfoldable pub after_arrival : ℕ → ℕ → List ℕ → ℕ → Option (StopTime × ℕ)
+after_arrival trip arrival text d = line_from (from_departure (Some trip) (Some arrival)) (drop d text) d
 
-  module _ {trip a : ℕ} (first_read : first ≡ C.Is trip a) {second : Column} (second-found : second ≡ column_of time_of comma text a) where
-    trip_read : line_at text at ≡ line_from (from_arrival (N.Is trip)) (drop a text) a
-    trip_read = read_then decimal from_arrival text at all_left first_found number_line_lem first_read
+unfoldable pub after_departure : ℕ → ℕ → ℕ → List ℕ → ℕ → Option (StopTime × ℕ)
+after_departure trip arrival departure text s = line_from (from_stop (Some trip) (Some arrival) (Some departure)) (drop s text) s
 
-    pub no_arrival : second ≡ C.Unread → L.Wrong ≡ line_at text at
-    unfolding time_of before
-    no_arrival =
-        unread_then time_of (from_departure (N.Is trip)) text a trip_read second-found
+unfoldable pub after_stop : ℕ → ℕ → ℕ → ℕ → List ℕ → ℕ → Option (StopTime × ℕ)
+after_stop trip arrival departure stop text q =
+    line_from (from_sequence (Some trip) (Some arrival) (Some departure) (Some stop)) (drop q text) q
+
+-- a column that is not read: the line is no row; one that is leaves the rest of the line
+pub no_trip : (text : List ℕ) (at : ℕ) → None ≡ column_of decimal comma text at → None ≡ line_at text at
+unfolding row_of time_of before
+no_trip text at is = sym (unread_then decimal from_arrival text at (record { unread = λ line. refl; missing = λ n. refl }) (sym is))
+
+pub trip_read : (text : List ℕ) (at trip a : ℕ) → Some (trip, a) ≡ column_of decimal comma text at
+    → after_trip trip text a ≡ line_at text at
+unfolding row_of after_trip
+trip_read text at trip a is = sym (read_then decimal from_arrival text at number_line_lem (sym is))
+
+module _ (trip : ℕ) where
+  pub no_arrival : (text : List ℕ) (at : ℕ) → None ≡ column_of time_of comma text at → None ≡ after_trip trip text at
+  unfolding after_trip time_of before
+  no_arrival text at is =
+      sym (unread_then time_of (from_departure (Some trip)) text at (record { unread = λ line. refl; missing = λ n. refl }) (sym is))
+
+  pub arrival_read : (text : List ℕ) (at arrival d : ℕ) → Some (arrival, d) ≡ column_of time_of comma text at
+      → after_arrival trip arrival text d ≡ after_trip trip text at
+  unfolding after_trip after_arrival
+  arrival_read text at arrival d is = sym (read_then time_of (from_departure (Some trip)) text at time_line (sym is))
+
+  module _ (arrival : ℕ) where
+    pub no_departure : (text : List ℕ) (at : ℕ) → None ≡ column_of time_of comma text at → None ≡ after_arrival trip arrival text at
+    unfolding after_arrival decimal before
+    no_departure text at is =
+        sym
+        (unread_then time_of (from_stop (Some trip) (Some arrival)) text at
         (record { unread = λ line. refl; missing = λ n. refl })
+        (sym is))
 
-    module _ {arrival d : ℕ} (second_read : second ≡ C.Is arrival d) {third : Column}
-        (third-found : third ≡ column_of time_of comma text d) where
-      arrival_read : line_at text at ≡ line_from (from_departure (N.Is trip) (N.Is arrival)) (drop d text) d
-      arrival_read = read_then time_of (from_departure (N.Is trip)) text a trip_read second-found time_line second_read
+    pub departure_read : (text : List ℕ) (at departure s : ℕ) → Some (departure, s) ≡ column_of time_of comma text at
+        → after_departure trip arrival departure text s ≡ after_arrival trip arrival text at
+    unfolding after_arrival after_departure
+    departure_read text at departure s is = sym (read_then time_of (from_stop (Some trip) (Some arrival)) text at time_line (sym is))
 
-      pub no_departure : third ≡ C.Unread → L.Wrong ≡ line_at text at
-      unfolding decimal before
-      no_departure =
-          unread_then time_of (from_stop (N.Is trip) (N.Is arrival)) text d arrival_read third-found
+    module _ (departure : ℕ) where
+      pub no_stop : (text : List ℕ) (at : ℕ) → None ≡ column_of decimal comma text at
+          → None ≡ after_departure trip arrival departure text at
+      unfolding after_departure decimal
+      no_stop text at is =
+          sym
+          (unread_then decimal (from_sequence (Some trip) (Some arrival) (Some departure)) text at
           (record { unread = λ line. refl; missing = λ n. refl })
+          (sym is))
 
-      module _ {departure s : ℕ} (third-read : third ≡ C.Is departure s) {fourth : Column}
-          (fourth-found : fourth ≡ column_of decimal comma text s) where
-        abbrev row_end : Number → List ℕ → Row
-        row_end = from_sequence (N.Is trip) (N.Is arrival) (N.Is departure)
+      pub stop_read : (text : List ℕ) (at stop q : ℕ) → Some (stop, q) ≡ column_of decimal comma text at
+          → after_stop trip arrival departure stop text q ≡ after_departure trip arrival departure text at
+      unfolding after_departure after_stop
+      stop_read text at stop q is =
+          sym (read_then decimal (from_sequence (Some trip) (Some arrival) (Some departure)) text at number_line_lem (sym is))
 
-        departure_read : line_at text at ≡ line_from (column_then decimal row_end) (drop s text) s
-        departure_read = read_then time_of (from_stop (N.Is trip) (N.Is arrival)) text d arrival_read third-found time_line third-read
+      module _ (stop : ℕ) where
+        pub no_sequence : (text : List ℕ) (at : ℕ) → None ≡ column_of decimal newline text at
+            → None ≡ after_stop trip arrival departure stop text at
+        unfolding after_stop
+        no_sequence text at is =
+            sym (last_unread decimal (row_from (Some trip) (Some arrival) (Some departure) (Some stop)) text at refl (sym is))
 
-        pub no_stop : fourth ≡ C.Unread → L.Wrong ≡ line_at text at
-        unfolding decimal
-        no_stop = unread_then decimal row_end text s departure_read fourth-found (record { unread = λ line. refl; missing = λ n. refl })
-
-        module _ {stop q : ℕ} (fourth-read : fourth ≡ C.Is stop q) {fifth : Column}
-            (fifth-found : fifth ≡ column_of decimal newline text q) where
-          abbrev row_last : Number → Row
-          row_last = row_from (N.Is trip) (N.Is arrival) (N.Is departure) (N.Is stop)
-
-          stop_read : line_at text at ≡ line_from (row_end (N.Is stop)) (drop q text) q
-          stop_read = read_then decimal row_end text s departure_read fourth-found number_line_lem fourth-read
-
-          pub no_sequence : fifth ≡ C.Unread → L.Wrong ≡ line_at text at
-          no_sequence = last_unread decimal row_last text q stop_read fifth-found refl
-
-          pub all_read : {sequence next : ℕ} → fifth ≡ C.Is sequence next
-              → L.Row (record { trip = trip; arrival = arrival; departure = departure; stop = stop; sequence = sequence }) next
-              ≡ line_at text at
-          all_read = last_read decimal row_last text q stop_read fifth-found
+        pub sequence_read : (text : List ℕ) (at sequence next : ℕ) → Some (sequence, next) ≡ column_of decimal newline text at
+            → Some (record { trip = trip; arrival = arrival; departure = departure; stop = stop; sequence = sequence }, next)
+            ≡ after_stop trip arrival departure stop text at
+        unfolding after_stop
+        sequence_read text at sequence next is =
+            sym (last_read decimal (row_from (Some trip) (Some arrival) (Some departure) (Some stop)) text at (sym is))

@@ -1,96 +1,49 @@
 // Rows of stop_times.txt read: the columns of a row one after the other, each found in the text and read.
 #![tactic(auto)]
 
-ghost use Rattle.std.specs.Prelude.{◌≡◌, ◌≤◌, length};
-ghost use Rattle.decimals.specs.Decimal.{decimal};
-ghost use Rattle.gtfs.specs.Clock.{time_of};
-ghost use Rattle.gtfs.specs.StopTimes.{comma};
-ghost use Rattle.stop_times.specs.Columns.{with_next, column_of, line_at};
+ghost use Rattle.std.specs.Prelude.{◌≡◌, ◌≤◌, Option, IfSome, List, ℕ, length};
+ghost use Rattle.std.specs.Fn.{FnReturnsAt};
+ghost use Rattle.stop_times.specs.Columns.{column_of, line_at};
 
-use decimals::Number;
 use gtfs::StopTime;
 
-// What a column holds: a number and where the next column starts, or none that can be read.
-#[derive(Clone, Copy)]
-pub enum Column {
-    Is(u16, usize),
-    Unread,
-}
-
-// A line of a text: a row and where the next line starts, or no row that a newline ends.
-#[derive(Clone, Copy)]
-pub enum Line {
-    Row(StopTime, usize),
-    Wrong,
-}
-
-// A number that was read, and where the next column starts.
-fn with_next(number: Number, next: usize) -> Column
-    ensures { result ≡ with_next number next }
-{
-    match number {
-        Number::Is(n) => Column::Is(n, next),
-        Number::Unread => Column::Unread,
-    }
-}
-
-// The number in the column that starts at a place of a text and that such a byte ends.
-fn number_column(text: &[u8], at: usize, byte: u8) -> Column
-    requires { at ≤ length text.now }
-    ensures { result ≡ column_of decimal byte text.now at }
+// The column that starts at a place of a text and that such a byte ends, and where the next one starts.
+fn column<F: Fn(&[u8]) -> Option<u16>>(
+    text: &[u8],
+    at: usize,
+    byte: u8,
+    read: F,
+) -> Option<(u16, usize)>
+    ghost reads: { List ℕ → Option ℕ }
+    requires within { at ≤ length text.now }
+    requires callable { F.IsAlwaysCallable read }
+    requires known { (word : List ℕ) (r : Option ℕ) → FnReturnsAt F.Fn read word r → r ≡ reads word }
+    ensures within { IfSome result (λ found. found.1 ≤ length text.now) }
+    ensures read { result ≡ column_of reads byte text.now at }
 {
     let end = cuts::end_of(text, at, byte);
     if text.len() <= end {
-        return Column::Unread;
+        return None;
     }
-    with_next(decimals::read_number(&text[at..end]), end + 1)
-}
-
-// The time in the column that starts at a place of a text and that a comma ends.
-fn time_column(text: &[u8], at: usize) -> Column
-    requires { at ≤ length text.now }
-    ensures { result ≡ column_of time_of comma text.now at }
-{
-    let comma = cuts::end_of(text, at, gtfs::COMMA);
-    if text.len() <= comma {
-        return Column::Unread;
-    }
-    with_next(clocks::read_time(&text[at..comma]), comma + 1)
+    Some((read(&text[at..end])?, end + 1))
 }
 
 // The row that starts at a place of a text, with the place after its newline; none where it cannot be read or no newline ends it.
-pub fn next_row(text: &[u8], at: usize) -> Line
+pub fn next_row(text: &[u8], at: usize) -> Option<(StopTime, usize)>
     requires { at ≤ length text.now }
     ensures { result ≡ line_at text.now at }
 {
-    let first = number_column(text, at, gtfs::COMMA);
-    let Column::Is(trip, a) = first else {
-        return Line::Wrong;
+    let (trip, a) = column(text, at, gtfs::COMMA, decimals::read_number)?;
+    let (arrival, d) = column(text, a, gtfs::COMMA, clocks::read_time)?;
+    let (departure, s) = column(text, d, gtfs::COMMA, clocks::read_time)?;
+    let (stop, q) = column(text, s, gtfs::COMMA, decimals::read_number)?;
+    let (sequence, next) = column(text, q, gtfs::NEWLINE, decimals::read_number)?;
+    let row = StopTime {
+        trip,
+        arrival,
+        departure,
+        stop,
+        sequence,
     };
-    let second = time_column(text, a);
-    let Column::Is(arrival, d) = second else {
-        return Line::Wrong;
-    };
-    let third = time_column(text, d);
-    let Column::Is(departure, s) = third else {
-        return Line::Wrong;
-    };
-    let fourth = number_column(text, s, gtfs::COMMA);
-    let Column::Is(stop, q) = fourth else {
-        return Line::Wrong;
-    };
-    let fifth = number_column(text, q, gtfs::NEWLINE);
-    let Column::Is(sequence, next) = fifth else {
-        return Line::Wrong;
-    };
-    Line::Row(
-        StopTime {
-            trip,
-            arrival,
-            departure,
-            stop,
-            sequence,
-        },
-        next,
-    )
+    Some((row, next))
 }

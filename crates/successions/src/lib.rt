@@ -6,34 +6,29 @@ ghost use Rattle.timetable.specs.File.{stays_aboard};
 ghost use Rattle.timetable.specs.Check.{wrong_trip, wrong_join};
 ghost use Rattle.successions.specs.Next.{HasNext, mask_if};
 
+use timetable::Fields;
+
 // Whether 11 does not hold at connection c, which is not the first. The mask has all bits where c stays aboard, else none,
 // so that no branch depends on that.
-fn joins(file: &[u8], stops: usize, c: usize, mask: u16) -> bool
-    requires { HasNext file.now stops c × (mask ≡ mask_if (stays_aboard file.now c)) }
-    ensures { result ≡ not (wrong_join file.now c) }
+fn joins(fields: Fields, c: usize, mask: u16) -> bool
+    requires { HasNext fields.file.now fields.stops c × (mask ≡ mask_if (stays_aboard fields.file.now c)) }
+    ensures { result ≡ not (wrong_join fields.entry.file.now c) }
 {
-    let apart = std::num::wrapping_sub_u16(
-        timetable::from(file, stops, c),
-        timetable::to(file, stops, c - 1),
-    );
+    let apart = fields.from(c).wrapping_sub(fields.to(c - 1));
     if apart & mask != 0 {
         return false;
     }
-    timetable::scheduled_arrival(file, stops, c - 1) & mask
-        <= timetable::scheduled_departure(file, stops, c)
+    fields.scheduled_arrival(c - 1) & mask <= fields.scheduled_departure(c)
 }
 
 // Whether 9 and 11 do not hold at connection c, which is not the first.
-pub fn follows(file: &[u8], stops: usize, c: usize) -> bool
-    requires { HasNext file.now stops c }
-    ensures { result ≡ not (wrong_trip file.now c || wrong_join file.now c) }
+pub fn follows(fields: Fields, c: usize) -> bool
+    requires { HasNext fields.file.now fields.stops c }
+    ensures { result ≡ not (wrong_trip fields.entry.file.now c || wrong_join fields.entry.file.now c) }
 {
-    let step = std::num::wrapping_sub_u16(
-        timetable::trip(file, stops, c),
-        timetable::trip(file, stops, c - 1),
-    );
+    let step = fields.trip(c).wrapping_sub(fields.trip(c - 1));
     if 1 < step {
         return false;
     }
-    joins(file, stops, c, std::num::wrapping_sub_u16(step, 1))
+    joins(fields, c, step.wrapping_sub(1))
 }

@@ -1,14 +1,14 @@
 -- The loop that fills the times: what one turn does, and that its last leaves the whole list. Assumes nothing.
 use mathlib.Core.Path.{◌≡◌, refl, ◌∙◌, sym}
-use mathlib.Core.Logic.{◌⊎◌, inl, inr, ⊎_elim}
-use mathlib.Core.Bool.{Bool, true, false, cond}
-use mathlib.Core.List.{List, [], ◌∷◌, ◌++◌, append-nil}
-use Prim.Native.Nat.{ℕ, zero, suc, ◌+◌, ◌*◌, ◌<◌, ◌≤◌, max}
+use mathlib.Core.Logic.{⊎_elim}
+use mathlib.Core.Bool.{true, false}
+use mathlib.Core.List.{List, [], ◌∷◌, ◌++◌}
+use Prim.Native.Nat.{ℕ, zero, suc, ◌+◌, ◌*◌, ◌<◌, ◌≤◌}
 use native.Mathlib.Numerals.{add-one}
 use native.Mathlib.Omega.{arith}
 use lib.ListN.{length, drop, set, length-append, length-drop}
-use lib.Seq.{drop-append-add, drop-drop, drop-length, sets-eq, take_at}
-use Rattle.timetable.specs.File.{connections, scheduled_departure, scheduled_arrival, stays_aboard}
+use lib.Seq.{drop-append-add, drop-drop, sets-eq, take_at}
+use Rattle.timetable.specs.File.{connections, stays_aboard}
 use Rattle.model.specs.Network.{Network, last_expected}
 use Rattle.model.specs.Notices.{most_standing}
 use Rattle.model.specs.Graph.{times}
@@ -17,19 +17,7 @@ use Rattle.model.proofs.ByCases.{by_bool}
 use Rattle.model.proofs.GraphArea.{length_times}
 use Rattle.model.proofs.Times.{first_starts, departure_own, departure_after, arrival_most}
 use Rattle.timetable.specs.Accepted.{Opened}
-use Rattle.times.specs.Times.{conditions_in, Delays, departs_at, longest_time}
-
--- the later of the own departure and the arrival before, or where the trip starts the own departure
-pub later_of : (s : Bool) (own before departure : ℕ)
-    → ((s ≡ true) × (own < before) × (departure ≡ before)) ⊎ (((s ≡ true) × (before ≤ own) × (departure ≡ own)) ⊎ ((s ≡ false) × (departure ≡ own)))
-    → departure ≡ cond s (max own before) own
-later_of s own before departure (inl w) = rw w.0 (omega (arith, w.1, w.2))
-later_of s own before departure (inr (inl w)) = rw w.0 (omega (arith, w.1, w.2))
-later_of s own before departure (inr (inr w)) = rw w.0 w.1
-
-pub later_most : (s : Bool) (own before : ℕ) → cond s (max own before) own ≤ own + before
-later_most true own before = omega arith
-later_most false own before = omega arith
+use Rattle.times.specs.Times.{conditions_in, Delays, departs_at}
 
 -- the departure by the arrival of the connection before
 pub departs_is : (f : List ℕ) (conditions : Conditions) (c before : ℕ) → ((e : ℕ) → c ≡ suc e → before ≡ expected_arrival f conditions e)
@@ -47,11 +35,6 @@ pub arrives_by : (f : List ℕ) (s n : ℕ) (primaries : List ℕ) → Opened f 
 arrives_by f s n primaries o d c h =
     let k : c < connections f = omega (arith, o.connections) in
     omega (arith, o.timetable.within c k, arrival_most f o.timetable (conditions_in primaries) most_standing c (λ e l. d.most e (omega (arith, o.connections))) k)
-
--- a connection of an accepted timetable departs before it arrives, which is early
-pub scheduled_early : (f : List ℕ) (s : ℕ) → Opened f s (connections f) → (c : ℕ) → c < connections f
-    → (scheduled_departure f c ≤ scheduled_arrival f c) × (scheduled_arrival f c ≤ longest_time)
-scheduled_early f s o c h = (omega (arith, o.timetable.forward c h), omega (arith, o.timetable.within c h))
 
 -- one turn
 times_turn : (net : Network) (c : ℕ) (area : List ℕ) → 2 * c + 1 < length area
@@ -71,7 +54,3 @@ pub times_more : (net : Network) (c departure arrival : ℕ) (area area₀ : Lis
     → departure ≡ net.departure c → arrival ≡ net.arrival c
     → set (set area (2 * c) departure) (2 * c + 1) arrival ≡ times net (c + 1) ++ drop (2 * (c + 1)) area₀
 times_more net c departure arrival area area₀ e l p q = rw (e, p, q) (times_turn net c area₀ l)
-
--- after the last turn
-pub times_done : (net : Network) (n c : ℕ) (area : List ℕ) → c ≡ n → length area ≡ 2 * n → times net c ++ drop (2 * c) area ≡ times net n
-times_done net n c area e l = rw (e, ← l, drop-length) (append-nil (times net n))

@@ -6,13 +6,12 @@ use mathlib.Core.List.{List}
 use Prim.Native.Nat.{ℕ, zero, suc, ◌<◌, ◌≤◌}
 use native.Mathlib.Omega.{arith}
 use lib.ListN.{length}
-use Rattle.timetable.specs.Answers.{first_below}
+use Rattle.refusals.specs.Answers.{first_below, Passed}
 use Rattle.timetable.specs.File.{header_length, stops, connections}
 use Rattle.timetable.specs.Check.{header_verdict, stop_verdict, connection_verdict, file_verdict}
-use Rattle.timetable.specs.Room.{HasStop, HasConnection}
+use Rattle.timetable.specs.Room.{HasStop, HoldsConnection}
 use Rattle.timetable.specs.Accepted.{Timetable}
 use Rattle.timetable.specs.Refusals.{Past6, Past7, GoodTrip, GoodJoin, ConnectionPasses}
-use Rattle.timetable.specs.declared.Verdict.TheVariants.{Passed}
 use Rattle.timetable.proofs.Order.{else_passed, below_passed}
 use Rattle.timetable.proofs.Rules.{rule7, header_passes, header_past, connection_passes, connection_good}
 
@@ -99,8 +98,8 @@ module _ (f : List ℕ) where
     pub room_for_stop : (s : ℕ) → s < stops f → HasStop f s
     room_for_stop s h = let l = t.long in omega arith
 
-    pub room_for : (c : ℕ) → c < connections f → HasConnection f (stops f) c
-    room_for c h = let l = t.long in record { count = refl; room = omega arith }
+    pub room_for : (c : ℕ) → c < connections f → HoldsConnection f (stops f) c
+    room_for c h = let l = t.long in omega arith
 
   -- the check accepts the timetables of document 01 and no other files
   pub accepted_iff : (file_verdict f ≡ Passed) ↔ Timetable f

@@ -3,14 +3,11 @@ use mathlib.Core.Path.{◌≡◌, refl, sym, ap}
 use mathlib.Core.List.{List}
 use Prim.Native.Nat.{ℕ}
 use native.Mathlib.Omega.{arith}
-use Rattle.timetable.specs.Answers.{Answer, accepted, refused, answering}
+use Rattle.refusals.specs.Answers.{Answer, accepted, refused, answering, Verdict, Passed, Refused}
 use Rattle.timetable.specs.Accepted.{Timetable, Opened}
 use Rattle.timetable.specs.Refusals.{FileRefusal}
-use Rattle.timetable.specs.Check.{Counts, counts_of, file_verdict, checked_answer, told_counts}
-use Rattle.timetable.specs.declared.Checked.{Checked}
-use Rattle.timetable.specs.declared.Checked.TheVariants as C
-use Rattle.timetable.specs.declared.Verdict.{Verdict}
-use Rattle.timetable.specs.declared.Verdict.TheVariants.{Passed, Refused}
+use Rattle.timetable.specs.Check.{counts_of, file_verdict, checked_answer}
+use Rattle.timetable.specs.declared.Counts.{Counts}
 use Rattle.timetable.proofs.Accepted.{accepted_iff}
 use Rattle.timetable.proofs.Refusals.{refused_iff}
 
@@ -37,11 +34,10 @@ module _ (f : List ℕ) where
   answered_refused n p e = (refused_iff f n p).0 (stopped (file_verdict f) (counts_of f) n p e)
 
   -- the same where code goes by the answer
-  module _ (r : Checked) (h : told_counts r ≡ checked_answer f) where
-    pub opened_by : (s n : ℕ) → r ≡ C.Accepted s n → Opened f s n
-    opened_by s n e =
-        let a = answered_accepted (record { stops = s; connections = n }) (rw e at h) in
-        record { timetable = a.0; stops = ap (λ (k : Counts). k.stops) a.1; connections = ap (λ (k : Counts). k.connections) a.1 }
+  pub opened_by : (a : Counts) → accepted a ≡ checked_answer f → Opened f a.stops a.connections
+  opened_by a e =
+      let g = answered_accepted a e in
+      record { timetable = g.0; stops = ap (λ (k : Counts). k.stops) g.1; connections = ap (λ (k : Counts). k.connections) g.1 }
 
-    pub refused_by : (n p : ℕ) → r ≡ C.Refused n p → file_verdict f ≡ Refused n p
-    refused_by n p e = (refused_iff f n p).1 (answered_refused n p (rw e at h))
+  pub refused_by : (n p : ℕ) → refused n p ≡ checked_answer f → file_verdict f ≡ Refused n p
+  refused_by n p e = (refused_iff f n p).1 (answered_refused n p e)

@@ -3,10 +3,9 @@
 use mathlib.Core.Path.{◌≡◌, refl}
 use mathlib.Core.List.{List, [], ◌∷◌, ◌++◌, map}
 use Prim.Native.Nat.{ℕ}
-use Rattle.timetable.specs.Answers.{first_below}
+use Rattle.refusals.specs.Answers.{first_below, Passed, Refused}
 use Rattle.timetable.specs.File.{transfer_time, trip, from, to, scheduled_departure, scheduled_arrival, stays_aboard}
 use Rattle.timetable.specs.Check.{header_verdict, stop_verdict, wrong_stops, wrong_trip, wrong_times, wrong_join, connection_verdict, file_verdict}
-use Rattle.timetable.specs.declared.Verdict.TheVariants.{Passed, Refused}
 
 -- the mark, then version v
 abbrev start : ℕ → List ℕ

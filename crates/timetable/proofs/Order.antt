@@ -5,9 +5,7 @@ use mathlib.Core.Bool.{Bool, true, false}
 use Prim.Native.Nat.{ℕ, zero, suc, ◌+◌, ◌<◌, ◌≤◌}
 use native.Mathlib.Numerals.{add-one}
 use native.Mathlib.Omega.{arith}
-use Rattle.timetable.specs.Answers.{refuse_if, is_passed, or_else, first_below}
-use Rattle.timetable.specs.declared.Verdict.{Verdict}
-use Rattle.timetable.specs.declared.Verdict.TheVariants.{Passed, Refused}
+use Rattle.refusals.specs.Answers.{refuse_if, is_passed, or_else, first_below, Verdict, Passed, Refused}
 use Rattle.timetable.proofs.Tests.{Faults, not_both, by_lt}
 
 -- no verdict is both

@@ -4,12 +4,11 @@ use mathlib.Core.Logic.{◌↔◌, inl, ⊎_elim}
 use mathlib.Core.List.{List}
 use Prim.Native.Nat.{ℕ}
 use native.Mathlib.Omega.{arith}
-use Rattle.timetable.specs.Answers.{first_below}
+use Rattle.refusals.specs.Answers.{first_below, Passed, Refused}
 use Rattle.timetable.specs.File.{stops, connections}
-use Rattle.timetable.specs.RefusalNumber as refusal
+use Rattle.refusals.specs.RefusalNumber as refusal
 use Rattle.timetable.specs.Check.{header_verdict, stop_verdict, connection_verdict, file_verdict}
 use Rattle.timetable.specs.Refusals.{Past1, Past2, Past3, Past4, Past5, Past6, Past7, Reaches, FileRefusal, no_header, wrong_mark_lem, wrong_version_lem, wrong_stop_count_lem, wrong_connection_count_lem, wrong_length_lem, wrong_transfer, wrong_stops_lem, wrong_trip_lem, wrong_times_lem, wrong_join_lem}
-use Rattle.timetable.specs.declared.Verdict.TheVariants.{Passed, Refused}
 use Rattle.timetable.proofs.Order.{passed_not_refused, or_passed, else_refused, pass, stop, refuses, found, below_passed, below_refused, first_refuses}
 use Rattle.timetable.proofs.Rules.{rule1, rule2, rule3, rule4, rule5, rule6, rule7, rule8, rule9, rule10, rule11, header1, header2, header3, header4, header5, header6, header_passes, header_past, connection_passes, connection_good}
 

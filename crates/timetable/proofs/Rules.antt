@@ -8,13 +8,12 @@ use native.Mathlib.Omega.{arith}
 use borrow.Author.Tests.{leb-true, le-leb, eqb-true, eq-eqb, not-false}
 use lib.Dec.{ltb, leb, eqb}
 use lib.ListN.{length}
-use Rattle.timetable.specs.Answers.{refuse_if, is_passed, first_refusal, first_below}
+use Rattle.refusals.specs.Answers.{refuse_if, is_passed, first_refusal, first_below, Passed, Refused}
 use Rattle.timetable.specs.File.{header_length, file_length, marked, stops, connections, transfer_time, trip, from, to, scheduled_departure, scheduled_arrival, stays_aboard}
 use Rattle.timetable.specs.File as file
-use Rattle.timetable.specs.RefusalNumber as refusal
+use Rattle.refusals.specs.RefusalNumber as refusal
 use Rattle.timetable.specs.Check.{format_version, max_stops, max_connections, max_transfer_time, last_scheduled, header_verdict, stop_verdict, wrong_stops, wrong_trip, wrong_times, breaks_off, wrong_join, connection_verdict}
 use Rattle.timetable.specs.Refusals.{Past1, Past2, Past3, Past4, Past5, Past6, StopCount, StopPasses, GoodStops, GoodTrip, GoodTimes, GoesOn, GoodJoin, ConnectionPasses}
-use Rattle.timetable.specs.declared.Verdict.TheVariants.{Passed, Refused}
 use Rattle.timetable.proofs.Tests.{Faults, below, at_most, equal, negated, unequal, either, and_left, and_right, and_both, neither, only_if, in_words}
 use Rattle.timetable.proofs.Order.{Rule, rule, pass, stop, passes, below_passed, passed_fewer}
 

@@ -1,5 +1,11 @@
 -- What an accepted file is, in the terms of document 01. Assumes nothing.
 use Rattle.std.specs.Prelude.{true, List, ◌⊎◌, ◌≡◌, ℕ, suc, ◌<◌, ◌≤◌, length}
+use mathlib.Core.Path.{ap}
+use mathlib.Core.Logic.{inl, inr}
+use native.Mathlib.Omega.{arith}
+use native.Mathlib.Nat.{ℕ_set}
+use native.Mathlib.Bridge.{le_prop}
+use mathlib.Core.Bool.{Bool-set}
 use Rattle.timetable.specs.File.{file_length, marked, stops, connections, transfer_time, trip, from, to, scheduled_departure, scheduled_arrival, stays_aboard}
 use Rattle.timetable.specs.File as file
 use Rattle.timetable.specs.Check.{format_version, max_stops, max_connections, max_transfer_time, last_scheduled}
@@ -28,3 +34,13 @@ pub record Opened (f : List ℕ) (s n : ℕ) : Type 0 where
   pub timetable : Timetable f
   pub stops : s ≡ stops f
   pub connections : n ≡ connections f
+
+-- a trip is that of the connection before or one more, not both
+pub next_prop : (t u : ℕ) → IsProp ((u ≡ t) ⊎ (u ≡ suc t))
+next_prop t u (inl p) (inl q) = ap inl (let one : IsProp (u ≡ t) = hlevel ℕ_set in one p q)
+next_prop t u (inl p) (inr q) = absurd (omega arith)
+next_prop t u (inr p) (inl q) = absurd (omega arith)
+next_prop t u (inr p) (inr q) = ap inr (let one : IsProp (u ≡ suc t) = hlevel ℕ_set in one p q)
+
+pub opened_prop : (f : List ℕ) (s n : ℕ) → IsProp (Opened f s n)
+opened_prop f s n = hlevel (next_prop, le_prop, ℕ_set, Bool-set)

@@ -1,11 +1,9 @@
 -- The check of a timetable file: refusals 1 to 11 in their order, each with its place. Assumes nothing.
 use Rattle.std.specs.Prelude.{Bool, false, not, ◌&&◌, ◌||◌, List, [], ◌∷◌, ℕ, zero, suc, ltb, leb, eqb, length}
-use Rattle.timetable.specs.Answers.{Answer, accepted, refused, refuse_if, or_else, first_refusal, first_below, answering}
+use Rattle.refusals.specs.Answers.{Answer, accepted, refused, refuse_if, or_else, first_refusal, first_below, answering, Verdict}
 use Rattle.timetable.specs.File.{header_length, file_length, marked, version, stops, connections, transfer_time, trip, from, to, scheduled_departure, scheduled_arrival, stays_aboard}
-use Rattle.timetable.specs.RefusalNumber as refusal
-use Rattle.timetable.specs.declared.Verdict.{Verdict}
-use Rattle.timetable.specs.declared.Checked.{Checked}
-use Rattle.timetable.specs.declared.Checked.TheVariants as C
+use Rattle.refusals.specs.RefusalNumber as refusal
+use Rattle.timetable.specs.declared.Counts.{Counts}
 
 abbrev pub format_version : ℕ
 format_version = 1
@@ -80,18 +78,9 @@ unfoldable pub file_verdict : List ℕ → Verdict
 file_verdict f = or_else (header_verdict f) (body_verdict f)
 
 -- the counts of a timetable
-pub record Counts : Type 0 where
-  pub stops : ℕ
-  pub connections : ℕ
-
 abbrev pub counts_of : List ℕ → Counts
 counts_of f = record { stops = stops f; connections = connections f }
 
 -- what checking a file answers
 abbrev pub checked_answer : List ℕ → Answer Counts
 checked_answer f = answering (file_verdict f) (counts_of f)
-
--- document 01's values and numbers of the check's answer
-abbrev pub told_counts : Checked → Answer Counts
-told_counts (C.Accepted s c) = accepted (record { stops = s; connections = c })
-told_counts (C.Refused n p) = refused n p

@@ -1,5 +1,3 @@
-pub mod Answers
-pub mod RefusalNumber
 pub mod File
 pub mod Check
 pub mod Room

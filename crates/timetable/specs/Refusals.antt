@@ -2,7 +2,7 @@
 use Rattle.std.specs.Prelude.{true, List, ◌⊎◌, ◌≡◌, ℕ, zero, suc, ◌<◌, ◌≤◌, length}
 use Rattle.timetable.specs.File.{header_length, file_length, marked, stops, connections, transfer_time, trip, from, to, scheduled_departure, scheduled_arrival, stays_aboard}
 use Rattle.timetable.specs.File as file
-use Rattle.timetable.specs.RefusalNumber as refusal
+use Rattle.refusals.specs.RefusalNumber as refusal
 use Rattle.timetable.specs.Check.{format_version, max_stops, max_connections, max_transfer_time, last_scheduled}
 
 -- Past1 f to Past6 f: refusals 1 to so many do not hold

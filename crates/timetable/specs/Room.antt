@@ -7,18 +7,15 @@ use Rattle.timetable.specs.Check.{max_connections}
 abbrev pub HasStop : List ℕ → ℕ → Type 0
 HasStop f s = header_length + 2 * s + 1 < length f
 
--- the file has s stops and holds the k-th number of connection c
-pub record HasField (f : List ℕ) (s c k : ℕ) : Type 0 where
-  pub count : s ≡ stops f
-  pub room : place_after s c + 2 * k + 1 < length f
+-- the file has s stops
+abbrev pub HasCount : List ℕ → ℕ → Type 0
+HasCount f s = s ≡ stops f
 
--- the file has s stops and holds connection c
-pub record HasConnection (f : List ℕ) (s c : ℕ) : Type 0 where
-  pub count : s ≡ stops f
-  pub room : place_after s (suc c) ≤ length f
+-- a file of s stops holds connection c
+abbrev pub HoldsConnection : List ℕ → ℕ → ℕ → Type 0
+HoldsConnection f s c = place_after s (suc c) ≤ length f
 
--- the file has s stops and holds the first n connections
-pub record HasConnections (f : List ℕ) (s n : ℕ) : Type 0 where
-  pub count : s ≡ stops f
+-- and the first n connections
+pub record HoldsConnections (f : List ℕ) (s n : ℕ) : Type 0 where
   pub few : n ≤ max_connections
   pub room : place_after s n ≤ length f

@@ -1,11 +1,11 @@
-// The timetable file: its limits and refusals by name, and readers of its fields.
+// The timetable file: its limits by name, and readers of its fields.
 #![tactic(auto)]
 
-ghost use Rattle.std.specs.Prelude.{◌≡◌, ◌<◌, ◌≤◌, length};
-ghost use Rattle.timetable.specs.File.{header_length, stops, connections, transfer_time, field, trip, from, to, scheduled_departure, scheduled_arrival, stays_aboard};
-ghost use Rattle.timetable.specs.Room.{HasStop, HasField, HasConnection};
-
-pub mod refusal;
+ghost use Rattle.std.specs.Prelude.{◌≡◌, ◌+◌, ◌*◌, ◌<◌, ◌≤◌, length};
+ghost use Rattle.timetable.specs.File.{header_length, stops, connections, place_after, transfer_time, field, trip, from, to, scheduled_departure, scheduled_arrival, stays_aboard};
+ghost use Rattle.timetable.specs.Accepted.{Opened, opened_prop};
+ghost use Rattle.timetable.specs.Check.{max_transfer_time};
+ghost use Rattle.timetable.specs.Room.{HasCount, HasStop, HoldsConnection};
 
 // The length of the header, and of one connection: `header_length` and `connection_length`.
 pub const HEADER_LENGTH: usize = 9;
@@ -26,18 +26,11 @@ pub const MAX_TRANSFER_TIME: u16 = 60;
 // The last minute at which a connection may arrive by the timetable: `last_scheduled`.
 pub const LAST_SCHEDULED: u16 = 4319;
 
-// Whether a call goes on, or the refusal's number and place.
-#[derive(Clone, Copy)]
-pub enum Verdict {
-    Passed,
-    Refused(u16, u16),
-}
-
-// The answer of the file check: how many stops and connections, or the refusal's number and place.
-#[derive(Clone, Copy)]
-pub enum Checked {
-    Accepted(u16, u16),
-    Refused(u16, u16),
+// How many stops and connections a timetable has.
+#[derive(Clone, Copy, Debug, PartialEq, Eq)]
+pub struct Counts {
+    pub stops: u16,
+    pub connections: u16,
 }
 
 // How many stops a file with a header has.
@@ -56,72 +49,169 @@ pub fn connections(file: &[u8]) -> u16
     numbers::number_at(file, 7)
 }
 
-// The minimum transfer time of stop s.
-pub fn transfer_time(file: &[u8], s: usize) -> u16
-    requires { HasStop file.now s }
-    ensures { result ≡ transfer_time file.now s }
-{
-    numbers::number_at(file, HEADER_LENGTH + 2 * s)
+// The fields of a file, by how many stops it says that it has.
+#[derive(Clone, Copy)]
+pub struct Fields<'a> {
+    pub file: &'a [u8],
+    pub stops: usize,
+    ghost counted: { HasCount file.now stops },
 }
 
-// The k-th of the five numbers of connection c.
-fn field(file: &[u8], stops: usize, c: usize, k: usize) -> u16
-    requires { HasField file.now stops c k }
-    ensures { result ≡ field k file.now c }
-{
-    numbers::number_at(
-        file,
-        HEADER_LENGTH + 2 * stops + CONNECTION_LENGTH * c + 2 * k,
-    )
+// An accepted timetable file, with its counts.
+#[derive(Clone, Copy)]
+pub struct Timetable<'a> {
+    pub file: &'a [u8],
+    pub stops: usize,
+    pub connections: usize,
+    ghost opened: { Opened file.now stops connections } by { opened_prop file.now stops connections },
 }
 
-// The trip of connection c.
-pub fn trip(file: &[u8], stops: usize, c: usize) -> u16
-    requires { HasConnection file.now stops c }
-    ensures { result ≡ trip file.now c }
-{
-    field(file, stops, c, 0)
-}
-
-// The stop that connection c starts from.
-pub fn from(file: &[u8], stops: usize, c: usize) -> u16
-    requires { HasConnection file.now stops c }
-    ensures { result ≡ from file.now c }
-{
-    field(file, stops, c, 1)
-}
-
-// The stop that connection c goes to.
-pub fn to(file: &[u8], stops: usize, c: usize) -> u16
-    requires { HasConnection file.now stops c }
-    ensures { result ≡ to file.now c }
-{
-    field(file, stops, c, 2)
-}
-
-// When connection c departs by the timetable.
-pub fn scheduled_departure(file: &[u8], stops: usize, c: usize) -> u16
-    requires { HasConnection file.now stops c }
-    ensures { result ≡ scheduled_departure file.now c }
-{
-    field(file, stops, c, 3)
-}
-
-// When connection c arrives by the timetable.
-pub fn scheduled_arrival(file: &[u8], stops: usize, c: usize) -> u16
-    requires { HasConnection file.now stops c }
-    ensures { result ≡ scheduled_arrival file.now c }
-{
-    field(file, stops, c, 4)
-}
-
-// Whether connection c has the trip of the one before it.
-pub fn stays_aboard(file: &[u8], stops: usize, c: usize) -> bool
-    requires { HasConnection file.now stops c }
-    ensures { result ≡ stays_aboard file.now c }
-{
-    if c == 0 {
-        return false;
+impl Fields<'_> {
+    // The minimum transfer time of stop s.
+    #[tactic(auto, unfolding(crate::specs::File::transfer_time))]
+    pub fn transfer_time(self, s: usize) -> u16
+        requires { HasStop self.file.now s }
+        ensures { result ≡ transfer_time self.entry.file.now s }
+    {
+        numbers::number_at(self.file, HEADER_LENGTH + 2 * s)
     }
-    trip(file, stops, c) == trip(file, stops, c - 1)
+
+    // The k-th of the five numbers of connection c.
+    fn field(self, c: usize, k: usize) -> u16
+        requires { place_after self.stops c + 2 * k + 1 < length self.file.now }
+        ensures { result ≡ field k self.entry.file.now c }
+    {
+        numbers::number_at(
+            self.file,
+            HEADER_LENGTH + 2 * self.stops + CONNECTION_LENGTH * c + 2 * k,
+        )
+    }
+
+    // The trip of connection c.
+    #[tactic(auto, unfolding(crate::specs::File::trip))]
+    pub fn trip(self, c: usize) -> u16
+        requires { HoldsConnection self.file.now self.stops c }
+        ensures { result ≡ trip self.entry.file.now c }
+    {
+        self.field(c, 0)
+    }
+
+    // The stop that connection c starts from.
+    #[tactic(auto, unfolding(crate::specs::File::from))]
+    pub fn from(self, c: usize) -> u16
+        requires { HoldsConnection self.file.now self.stops c }
+        ensures { result ≡ from self.entry.file.now c }
+    {
+        self.field(c, 1)
+    }
+
+    // The stop that connection c goes to.
+    #[tactic(auto, unfolding(crate::specs::File::to))]
+    pub fn to(self, c: usize) -> u16
+        requires { HoldsConnection self.file.now self.stops c }
+        ensures { result ≡ to self.entry.file.now c }
+    {
+        self.field(c, 2)
+    }
+
+    // When connection c departs by the timetable.
+    #[tactic(auto, unfolding(crate::specs::File::scheduled_departure))]
+    pub fn scheduled_departure(self, c: usize) -> u16
+        requires { HoldsConnection self.file.now self.stops c }
+        ensures { result ≡ scheduled_departure self.entry.file.now c }
+    {
+        self.field(c, 3)
+    }
+
+    // When connection c arrives by the timetable.
+    #[tactic(auto, unfolding(crate::specs::File::scheduled_arrival))]
+    pub fn scheduled_arrival(self, c: usize) -> u16
+        requires { HoldsConnection self.file.now self.stops c }
+        ensures { result ≡ scheduled_arrival self.entry.file.now c }
+    {
+        self.field(c, 4)
+    }
+
+    // Whether connection c has the trip of the one before it.
+    #[tactic(auto, unfolding(crate::specs::File::stays_aboard))]
+    pub fn stays_aboard(self, c: usize) -> bool
+        requires { HoldsConnection self.file.now self.stops c }
+        ensures { result ≡ stays_aboard self.entry.file.now c }
+    {
+        if c == 0 {
+            return false;
+        }
+        self.trip(c) == self.trip(c - 1)
+    }
+}
+
+impl<'a> Timetable<'a> {
+    // The fields of the file.
+    fn fields(self) -> Fields<'a>
+        ensures { (result.file.now ≡ self.entry.file.now) × (result.stops ≡ self.entry.stops) }
+    {
+        Fields {
+            file: self.file,
+            stops: self.stops,
+        }
+    }
+
+    // The minimum transfer time of stop s.
+    pub fn transfer_time(self, s: usize) -> u16
+        requires { s < self.stops }
+        ensures value { result ≡ transfer_time self.entry.file.now s }
+        ensures few { result ≤ max_transfer_time }
+    {
+        self.fields().transfer_time(s)
+    }
+
+    // The trip of connection c.
+    pub fn trip(self, c: usize) -> u16
+        requires { c < self.connections }
+        ensures { result ≡ trip self.entry.file.now c }
+    {
+        self.fields().trip(c)
+    }
+
+    // The stop that connection c starts from.
+    pub fn from(self, c: usize) -> u16
+        requires { c < self.connections }
+        ensures value { result ≡ from self.entry.file.now c }
+        ensures stop { result < self.entry.stops }
+    {
+        self.fields().from(c)
+    }
+
+    // The stop that connection c goes to.
+    pub fn to(self, c: usize) -> u16
+        requires { c < self.connections }
+        ensures value { result ≡ to self.entry.file.now c }
+        ensures stop { result < self.entry.stops }
+    {
+        self.fields().to(c)
+    }
+
+    // When connection c departs by the timetable.
+    pub fn scheduled_departure(self, c: usize) -> u16
+        requires { c < self.connections }
+        ensures { result ≡ scheduled_departure self.entry.file.now c }
+    {
+        self.fields().scheduled_departure(c)
+    }
+
+    // When connection c arrives by the timetable.
+    pub fn scheduled_arrival(self, c: usize) -> u16
+        requires { c < self.connections }
+        ensures { result ≡ scheduled_arrival self.entry.file.now c }
+    {
+        self.fields().scheduled_arrival(c)
+    }
+
+    // Whether connection c has the trip of the one before it.
+    pub fn stays_aboard(self, c: usize) -> bool
+        requires { c < self.connections }
+        ensures { result ≡ stays_aboard self.entry.file.now c }
+    {
+        self.fields().stays_aboard(c)
+    }
 }

@@ -106,10 +106,6 @@ module _ (w : List ℕ) (c : ℕ) (r : Trail w c) where
         reached = rw same_entry at (r.rooted.onward c r.numbered r.reached);
       }
 
-  -- the connection that is its own predecessor is the first
-  pub step_last : get_or w c 0 ≡ c → length (follow w (length w) c) ≡ 1
-  step_last q = rw (r.rooted.ended c r.numbered r.reached, eq-eqb (get_or w c none) c (same_entry ∙ q))
-
   -- before another there is one more
   pub step_more : (get_or w c 0 ≡ c → ⊥) → length (follow w (length w) c) ≡ suc (length (follow w (length w) (get_or w c 0)))
   step_more u =

@@ -4,7 +4,7 @@
 ghost use Rattle.std.specs.Prelude.{◌≡◌, ◌≤◌, length};
 ghost use Rattle.trails.specs.Trail.{journey_to, Trail, JourneyWritten};
 
-// How many connections the journey has that ends with last.
+// How many connections the journey has that ends with last. A `while`, since each step leads to what the one before found.
 fn journey_length(predecessors: &[u16], last: u16) -> usize
     requires { Trail predecessors.now last }
     ensures { result ≡ length (journey_to predecessors.now last) }
@@ -25,10 +25,8 @@ pub fn write_journey(predecessors: &[u16], journey: &mut [u16], last: u16) -> us
     ensures { JourneyWritten predecessors.now last journey.old result journey.new }
 {
     let k = journey_length(predecessors, last);
-    let mut i = k;
     let mut c = last;
-    while 0 < i {
-        i -= 1;
+    for i in (0..k).rev() {
         journey[i] = c;
         c = predecessors[c as usize];
     }

@@ -8,10 +8,8 @@ ghost use Rattle.turns.specs.Turns.{state, turn_of};
 ghost use Rattle.turns.specs.Worked.{Performed, Worked};
 
 use meanings::Command;
+use refusals::{Reason, Refusal};
 use written_replies::Reply;
-
-// The refusal of a line that is no command: `unreadable`.
-pub const UNREADABLE: u16 = 18;
 
 // Works a command; what is said to it.
 fn perform(
@@ -21,30 +19,27 @@ fn perform(
     work: &mut [u16],
     journey: &mut [u16],
     command: Command,
-) -> Reply
+) -> Result<Reply, Refusal>
     ensures { Performed result (state (lent notices.new graph.new) work.new journey.new)
         (turn_of (day_of file.now)
-        (state (lent notices.old graph.old) work.old journey.old) command) }
+        (state (lent notices.old graph.old) work.old journey.old) (Some command)) }
 {
     match command {
         Command::Post(number, connection, delay) => {
-            replies::posted_reply(graph::post(file, notices, graph, number, connection, delay))
+            graph::post(file, notices, graph, number, connection, delay).map(Reply::Posted)
         }
         Command::Withdraw(number) => {
-            replies::withdrawn_reply(graph::withdraw(file, notices, graph, number))
+            graph::withdraw(file, notices, graph, number).map(Reply::Withdrawn)
         }
         Command::Enquire(from, to, time) => {
-            replies::arrival_reply(search::enquire(
-                file, notices, graph, work, journey, from, to, time,
-            ))
+            search::enquire(file, notices, graph, work, journey, from, to, time).map(Reply::Arrives)
         }
         Command::Margin(connection, next) => {
-            replies::margin_reply(search::margin(file, notices, graph, connection, next))
+            search::margin(file, notices, graph, connection, next).map(Reply::Margin)
         }
         Command::Why(connection) => {
-            replies::why_reply(connection, graph::why(file, notices, connection))
+            graph::why(file, notices, connection).map(|primary| Reply::Why(connection, primary))
         }
-        Command::Unreadable => Reply::Refused(UNREADABLE, 0),
     }
 }
 
@@ -65,7 +60,9 @@ pub fn work_line(
         (state (lent notices.old graph.old) work.old journey.old)
         (command_of line.now)) }
 {
-    let command = commands::read_command(line);
-    let reply = perform(file, notices, graph, work, journey, command);
+    let reply = match commands::read_command(line) {
+        Some(command) => perform(file, notices, graph, work, journey, command),
+        None => Err(Refusal(Reason::Unreadable, 0)),
+    };
     written_replies::write_reply(reply, journey, out)
 }

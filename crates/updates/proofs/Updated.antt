@@ -5,25 +5,26 @@ use mathlib.Core.List.{List, [], ◌++◌}
 use Prim.Native.Nat.{ℕ, ◌+◌, ◌-◌, ◌≤◌}
 use native.Mathlib.Omega.{arith}
 use lib.ListN.{length, take, drop, length-append, length-drop, drop_of_length-le}
-use lib.Seq.{drop-length, drop_at}
+use lib.Seq.{drop-length, drop_at, take-length}
+use Rattle.std.specs.Prelude.{Result, Ok, Err, is_ok}
+use Rattle.numbers.specs.Numbers.{over_bytes}
 use Rattle.numbers.proofs.Areas.{Bytes}
-use Rattle.timetable.specs.Answers.{is_accepted}
+use Rattle.refusals.specs.Answers.{is_accepted, Verdict, Passed, Refused}
 use Rattle.timetable.specs.File.{header_length, connections}
 use Rattle.timetable.specs.Check.{file_verdict, counts_of}
-use Rattle.timetable.specs.declared.Verdict.{Verdict}
-use Rattle.timetable.specs.declared.Verdict.TheVariants.{Passed, Refused}
 use Rattle.timetable.proofs.Accepted.{accepted_iff}
-use Rattle.model.specs.Notices.{Notice, notice, notices_length, entered, struck}
+use Rattle.model.specs.Notices.{notices_length, entered, struck}
+use Rattle.model.specs.declared.Notice.{Notice}
 use Rattle.model.specs.Day.{Day, Areas, lent}
 use Rattle.model.specs.Parts.{part_verdict, verdict, building_parts, call_parts, posting_asks, withdrawal_asks}
 use Rattle.model.specs.Operations.{concluded, built, changed}
 use Rattle.model.proofs.Fronts.{behind, fronts, front_built, front_changed}
-use Rattle.codes.specs.Encoded.{coded, coded_counts}
+use Rattle.codes.specs.Encoded.{code_in, coded, coded_counts}
 use Rattle.model.specs.Drawn.{graph_length, graph_for, standing, most_graph}
 use Rattle.model.proofs.Verdicts.{else_passed}
 use Rattle.model.proofs.Parts.{call_passed}
 use Rattle.model.proofs.Ready.{graph_long}
-use Rattle.fronts.specs.Fronts.{writes, lent_bytes, FrontsFit, ReadBoth, WrittenBoth}
+use Rattle.fronts.specs.Fronts.{writes, lent_bytes, ReadBoth, WrittenBoth}
 use Rattle.fronts.proofs.Fronts.{graph_covers, Changed, both_front, first_whole, second_whole}
 use Rattle.coded_updates.specs.declared.Update.{Update}
 use Rattle.coded_updates.specs.declared.Update.TheVariants.{Build, Post, Withdraw}
@@ -41,10 +42,10 @@ whole areas o = coded_outcome o.code (behind o.areas (drop notices_length areas.
 front_updated : (day : Day) (areas : Areas) (u : Update) → updated day areas u ≡ whole areas (updated day (front areas) u)
 front_updated day areas Build =
     ap (coded_by coded_counts) (front_built day areas notices_length most_graph (omega arith) (graph_covers day.file areas.graph))
-front_updated day areas (Post n c d) =
+front_updated day areas (Post n) =
     ap (coded_by coded)
     (front_changed day areas notices_length most_graph (omega arith) (graph_covers day.file areas.graph)
-    (posting_asks (connections day.file) n c d) n (entered (notice n c d)))
+    (posting_asks (connections day.file) n.number n.connection n.delay) n.number (entered n))
 front_updated day areas (Withdraw n) =
     ap (coded_by coded)
     (front_changed day areas notices_length most_graph (omega arith) (graph_covers day.file areas.graph) (withdrawal_asks n) n (struck n))
@@ -83,44 +84,59 @@ module _ (day : Day) (areas areas' : Areas) (h : length areas'.notices ≡ lengt
       }
 
   -- what an update has changed
-  pub update_changes : (u : Update) {code : ℕ} {accepted : Bool} → UpdatedNumbers day areas u code accepted areas' → Concluded day areas accepted areas'
+  pub update_changes : (u : Update) {r : Result ℕ ℕ} → UpdatedNumbers day areas u r areas' → Concluded day areas (is_ok r) areas'
   unfolding built changed part_verdict
   update_changes Build e =
       rw e.told
       (concluded_changes (verdict day areas (building_parts day areas)) (counts_of day.file) []
       (λ p. ((else_passed (file_verdict day.file) _).0 p).0) (ap (λ (o : CodedOutcome). o.areas) e.outcome))
-  update_changes (Post n c d) e =
-      let own = posting_asks (connections day.file) n c d in
+  update_changes (Post n) e =
+      let own = posting_asks (connections day.file) n.number n.connection n.delay in
       rw e.told
-      (concluded_changes (verdict day areas (call_parts day areas [] own)) n (entered (notice n c d) (standing areas))
+      (concluded_changes (verdict day areas (call_parts day areas [] own)) n.number (entered n (standing areas))
       (λ p. (call_passed day areas [] own p).file) (ap (λ (o : CodedOutcome). o.areas) e.outcome))
   update_changes (Withdraw n) e =
       rw e.told
       (concluded_changes (verdict day areas (call_parts day areas [] (withdrawal_asks n))) n (struck n (standing areas))
       (λ p. (call_passed day areas [] (withdrawal_asks n) p).file) (ap (λ (o : CodedOutcome). o.areas) e.outcome))
 
--- an accepted update has a file with its header, and room for its graph
-pub write_room : {day : Day} {areas areas' : Areas} {accepted : Bool} → Concluded day areas accepted areas' → accepted ≡ true
-    → (header_length ≤ length day.file) × (graph_length day.file ≤ length areas'.graph)
-write_room {day} {areas} {areas'} {accepted} c h =
-    let t = (accepted_iff day.file).0 (c.file_passed h) in
-    let l : writes accepted (graph_length day.file) ≤ length areas.graph = c.graph_changed.within in
-    (omega (arith, t.long), omega (arith, c.graph_changed.kept, rw h at l))
+-- both areas worked on in n and g, of which n' and g' are left
+module _ {n g n' g' : List ℕ} (h : length n' ≡ length n) (h' : length g' ≡ length g) (day : Day) (u : Update) where
+  -- an accepted update has a file with its header, and room for its graph
+  pub write_room : {code : ℕ} → UpdatedNumbers day (lent n g) u (Ok code) (lent n' g') → (header_length ≤ length day.file) × (graph_length day.file ≤ length g')
+  write_room e =
+      let c = update_changes day (lent n g) (lent n' g') h h' u e in
+      let t = (accepted_iff day.file).0 (c.file_passed refl) in
+      (omega (arith, t.long), omega (arith, c.graph_changed.kept, c.graph_changed.within))
 
--- read, updated and written back
-module _ {notices graph n₀ g₀ : List ℕ} (fits : FrontsFit notices_length most_graph notices graph n₀ g₀) where
-  pub update_written : (day : Day) (u : Update) → Bytes notices → Bytes graph → {n g : List ℕ} → ReadBoth notices graph n₀ g₀ n g
-      → {code : ℕ} {accepted : Bool} {n' g' : List ℕ} → UpdatedNumbers day (lent n g) u code accepted (lent n' g')
-      → Concluded day (lent n g) accepted (lent n' g') → {notices' graph' : List ℕ}
-      → WrittenBoth (take (writes accepted (length n')) n') (take (writes accepted (graph_length day.file)) g') notices graph notices' graph'
-      → OutcomeBytes (updated day (lent_bytes notices graph) u) notices graph code notices' graph'
-  update_written day u p q {n} {g} read {code} {accepted} {n'} {g'} e c {notices'} {graph'} back =
-      let areas : Areas = lent_bytes notices graph in
-      let o : updated day areas u ≡ whole areas (coded_outcome code (lent n' g')) =
-      front_updated day areas u
-      ∙ ap (whole areas) (sym (e.outcome ∙ ap (λ (x : Areas). updated day x u) (both_front fits read))) in
-      rw o (record {
-        answer = refl;
-        notices_written = first_whole fits read p c.notices_changed back.first_written;
-        graph_written = second_whole fits read q c.graph_changed back.second_written;
-      })
+  -- read before, and written back
+  module _ {notices graph : List ℕ} (read : ReadBoth notices_length most_graph notices graph n g) (p : Bytes notices) (q : Bytes graph) where
+    update_written : {r : Result ℕ ℕ} → UpdatedNumbers day (lent n g) u r (lent n' g') → {notices' graph' : List ℕ}
+        → WrittenBoth (take (writes (is_ok r) (length n')) n') (take (writes (is_ok r) (graph_length day.file)) g') notices graph notices' graph'
+        → OutcomeBytes (updated day (lent_bytes notices graph) u) notices graph (code_in r) notices' graph'
+    update_written {r} e back =
+        let areas : Areas = lent_bytes notices graph in
+        let c = update_changes day (lent n g) (lent n' g') h h' u e in
+        let o : updated day areas u ≡ whole areas (coded_outcome (code_in r) (lent n' g')) =
+        front_updated day areas u
+        ∙ ap (whole areas) (sym (e.outcome ∙ ap (λ (x : Areas). updated day x u) (both_front read))) in
+        rw o (record {
+          answer = refl;
+          notices_written = first_whole read p c.notices_changed back.first_written;
+          graph_written = second_whole read q c.graph_changed back.second_written;
+        })
+
+    pub accepted_written : {code : ℕ} → UpdatedNumbers day (lent n g) u (Ok code) (lent n' g') → {notices' graph' : List ℕ}
+        → WrittenBoth n' (take (graph_length day.file) g') notices graph notices' graph'
+        → OutcomeBytes (updated day (lent_bytes notices graph) u) notices graph code notices' graph'
+    accepted_written e back =
+        update_written e (record {
+          first_written = back.first_written ∙ ap (λ (x : List ℕ). over_bytes x notices) (sym (take-length n'));
+          second_written = back.second_written;
+        })
+
+    -- nothing is written after a refusal
+    pub refused_unwritten : {code : ℕ} → UpdatedNumbers day (lent n g) u (Err code) (lent n' g')
+        → OutcomeBytes (updated day (lent_bytes notices graph) u) notices graph code notices graph
+    unfolding over_bytes
+    refused_unwritten e = update_written e (record { first_written = refl; second_written = refl })

@@ -1,9 +1,9 @@
 -- What an enquiry found, as far as it is written back. Assumes nothing.
 use Rattle.std.specs.Prelude.{Bool, true, List, ℕ, ◌≤◌, eqb, length}
-use Rattle.timetable.specs.Answers.{Answer, accepted, refused}
+use Rattle.refusals.specs.Answers.{Answer, accepted, refused}
 use Rattle.timetable.specs.File.{header_length, connections}
-use Rattle.model.specs.RefusalNumber as refusal
-use Rattle.model.specs.Operations.{Arrival}
+use Rattle.refusals.specs.RefusalNumber as refusal
+use Rattle.model.specs.declared.Arrival.{Arrival}
 
 -- whether an enquiry was searched for: it found a journey, or that there is none
 abbrev pub is_searched : Answer Arrival → Bool

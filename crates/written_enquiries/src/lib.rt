@@ -1,32 +1,24 @@
 // What an enquiry found, written back to areas of bytes: the predecessors and the journey.
 #![tactic(auto)]
 
-ghost use Rattle.std.specs.Prelude.{◌≡◌, true, take};
+ghost use Rattle.std.specs.Prelude.{◌≡◌, true, false, take, MatchOption};
 ghost use Rattle.timetable.specs.File.{connections};
-ghost use Rattle.journeys.specs.Reading.{told_arrival};
+ghost use Rattle.refusals.specs.Answers.{told};
 ghost use Rattle.fronts.specs.Fronts.{writes, WrittenBoth};
 ghost use Rattle.written_enquiries.specs.Found.{is_searched, journey_length, FoundRoom};
 
-use journeys::Enquired;
-use model::refusal;
+use model::Arrival;
+use refusals::{Reason, Refusal};
 
-// Whether an enquiry was searched for.
-fn is_searched(enquired: Enquired) -> bool
-    ensures { result ≡ is_searched (told_arrival enquired) }
+// How many connections the journey has that an enquiry found, 0 where it searched and found none.
+fn found_length(answer: Result<Arrival, Refusal>) -> Option<usize>
+    ensures { MatchOption result (is_searched (told answer) ≡ false)
+        (λ n. (is_searched (told answer) ≡ true) × (n ≡ journey_length (told answer))) }
 {
-    match enquired {
-        Enquired::Arrives(_, _) => true,
-        Enquired::Refused(number, _) => number == refusal::UNREACHABLE,
-    }
-}
-
-// How many connections the journey of an enquiry has.
-fn journey_length(enquired: Enquired) -> usize
-    ensures { result ≡ journey_length (told_arrival enquired) }
-{
-    match enquired {
-        Enquired::Arrives(_, connections) => connections as usize,
-        Enquired::Refused(_, _) => 0,
+    match answer {
+        Ok(arrival) => Some(arrival.connections as usize),
+        Err(Refusal(Reason::Unreachable, _)) => Some(0),
+        Err(_) => None,
     }
 }
 
@@ -37,17 +29,16 @@ pub fn write_found(
     j: &[u16],
     work: &mut [u8],
     journey: &mut [u8],
-    enquired: Enquired,
+    answer: Result<Arrival, Refusal>,
 )
-    requires { is_searched (told_arrival enquired) ≡ true → FoundRoom file.now w.now j.now (told_arrival enquired) }
+    requires { is_searched (told answer) ≡ true → FoundRoom file.now w.now j.now (told answer) }
     ensures { WrittenBoth
-        (take (writes (is_searched (told_arrival enquired)) (connections file.now)) w.now)
-        (take (journey_length (told_arrival enquired)) j.now)
+        (take (writes (is_searched (told answer)) (connections file.now)) w.now)
+        (take (journey_length (told answer)) j.now)
         work.old journey.old work.new journey.new }
 {
-    if is_searched(enquired) {
+    if let Some(length) = found_length(answer) {
         let n = timetable::connections(file) as usize;
-        let m = journey_length(enquired);
-        fronts::write_both(&w[0..n], &j[0..m], work, journey);
+        fronts::write_both(&w[..n], &j[..length], work, journey);
     }
 }

@@ -11,60 +11,60 @@ use Rattle.asks.proofs.posting_verdict.Goals as goal
 
 pub returns-then-number-eq-NO_NUMBER : goal.returns-then-number-eq-NO_NUMBER
 returns-then-number-eq-NO_NUMBER c =
-    rw (eq-eqb c.args.number 0 c.if-number-eq-NO_NUMBER.true)
+    rw (eq-eqb c.args.notice.number 0 c.if-number-eq-NO_NUMBER.true)
 
 pub returns-then-n-connection : goal.returns-then-n-connection
 returns-then-n-connection c =
     let a = c.args in
-    rw (ne_eqb a.number 0 c.if-number-eq-NO_NUMBER.false, le-leb a.n a.connection (omega arith))
+    rw (ne_eqb a.notice.number 0 c.if-number-eq-NO_NUMBER.false, le-leb a.n a.notice.connection (omega arith))
 
 pub returns-then-delay-lt-LEAST_DELAY : goal.returns-then-delay-lt-LEAST_DELAY
 returns-then-delay-lt-LEAST_DELAY c =
     let a = c.args in
-    rw (ne_eqb a.number 0 c.if-number-eq-NO_NUMBER.false, lt-leb a.n a.connection (omega arith), lt-leb least_delay a.delay (omega arith))
+    rw (ne_eqb a.notice.number 0 c.if-number-eq-NO_NUMBER.false, lt-leb a.n a.notice.connection (omega arith), lt-leb least_delay a.notice.delay (omega arith))
 
 pub returns-then-delay-gt-MOST_POSTED : goal.returns-then-delay-gt-MOST_POSTED
 returns-then-delay-gt-MOST_POSTED c =
     let a = c.args in
-    rw (ne_eqb a.number 0 c.if-number-eq-NO_NUMBER.false, lt-leb a.n a.connection (omega arith), le-leb least_delay a.delay (omega arith), lt-leb a.delay most_posted (omega arith))
+    rw (ne_eqb a.notice.number 0 c.if-number-eq-NO_NUMBER.false, lt-leb a.n a.notice.connection (omega arith), le-leb least_delay a.notice.delay (omega arith), lt-leb a.notice.delay most_posted (omega arith))
 
 pub returns-then-stands_elsewhere : goal.returns-then-stands_elsewhere
 returns-then-stands_elsewhere c =
     let a = c.args in
     let ns = rows_of a.notices.now in
-    let own = by_standing a.n ns a.number a.connection a.delay in
+    let own = by_standing a.n ns a.notice.number a.notice.connection a.notice.delay in
     let passed = own c.if-number-eq-NO_NUMBER.false (omega arith) (omega arith) (omega arith) in
-    let elsewhere : stands_elsewhere a.number a.connection ns ≡ true = sym c.stands_elsewhere.ensures ∙ c.if-stands_elsewhere.true in
+    let elsewhere : stands_elsewhere a.notice.number a.notice.connection ns ≡ true = sym c.stands_elsewhere.ensures ∙ c.if-stands_elsewhere.true in
     rw (passed, elsewhere)
 
 pub returns-then-is_standing : goal.returns-then-is_standing
 returns-then-is_standing c =
     let a = c.args in
     let ns = rows_of a.notices.now in
-    let own = by_standing a.n ns a.number a.connection a.delay in
+    let own = by_standing a.n ns a.notice.number a.notice.connection a.notice.delay in
     let passed = own c.if-number-eq-NO_NUMBER.false (omega arith) (omega arith) (omega arith) in
-    let here : stands_elsewhere a.number a.connection ns ≡ false = sym c.stands_elsewhere.ensures ∙ c.if-stands_elsewhere.false in
-    let standing : stands a.number ns ≡ true = sym c.is_standing.ensures ∙ c.if-is_standing.true in
+    let here : stands_elsewhere a.notice.number a.notice.connection ns ≡ false = sym c.stands_elsewhere.ensures ∙ c.if-stands_elsewhere.false in
+    let standing : stands a.notice.number ns ≡ true = sym c.is_standing.ensures ∙ c.if-is_standing.true in
     rw (passed, here, standing)
 
 pub returns-then-notices-ge-ROOM : goal.returns-then-notices-ge-ROOM
 returns-then-notices-ge-ROOM c =
     let a = c.args in
     let ns = rows_of a.notices.now in
-    let own = by_standing a.n ns a.number a.connection a.delay in
+    let own = by_standing a.n ns a.notice.number a.notice.connection a.notice.delay in
     let passed = own c.if-number-eq-NO_NUMBER.false (omega arith) (omega arith) (omega arith) in
     let full = le-leb room (length ns) (omega (arith, count_rows a.notices.now)) in
-    let here : stands_elsewhere a.number a.connection ns ≡ false = sym c.stands_elsewhere.ensures ∙ c.if-stands_elsewhere.false in
-    let new : stands a.number ns ≡ false = sym c.is_standing.ensures ∙ c.if-is_standing.false in
+    let here : stands_elsewhere a.notice.number a.notice.connection ns ≡ false = sym c.stands_elsewhere.ensures ∙ c.if-stands_elsewhere.false in
+    let new : stands a.notice.number ns ≡ false = sym c.is_standing.ensures ∙ c.if-is_standing.false in
     rw (passed, here, new, full)
 
 pub returns : goal.returns
 returns c =
     let a = c.args in
     let ns = rows_of a.notices.now in
-    let own = by_standing a.n ns a.number a.connection a.delay in
+    let own = by_standing a.n ns a.notice.number a.notice.connection a.notice.delay in
     let passed = own c.if-number-eq-NO_NUMBER.false (omega arith) (omega arith) (omega arith) in
     let full = lt-leb room (length ns) (omega (arith, count_rows a.notices.now)) in
-    let here : stands_elsewhere a.number a.connection ns ≡ false = sym c.stands_elsewhere.ensures ∙ c.if-stands_elsewhere.false in
-    let new : stands a.number ns ≡ false = sym c.is_standing.ensures ∙ c.if-is_standing.false in
+    let here : stands_elsewhere a.notice.number a.notice.connection ns ≡ false = sym c.stands_elsewhere.ensures ∙ c.if-stands_elsewhere.false in
+    let new : stands a.notice.number ns ≡ false = sym c.is_standing.ensures ∙ c.if-is_standing.false in
     rw (passed, here, new, full)

@@ -1,45 +1,39 @@
 -- `building::build` meets its contract. Assumes nothing.
 use mathlib.Core.Path.{◌≡◌, sym, ◌∙◌}
-use Rattle.timetable.specs.declared.Verdict.TheVariants.{Passed}
+use native.Mathlib.Omega.{arith}
+use Rattle.refusals.specs.Answers.{Passed}
+use Rattle.timetable.specs.Accepted.{Opened}
+use Rattle.timetable.proofs.Accepted.{accepted_iff}
 use Rattle.model.specs.Day.{Day, Areas, day_of, lent}
 use Rattle.model.specs.Parts.{room_verdict}
-use Rattle.timetable.specs.Accepted.{Opened}
-use Rattle.timetable.proofs.Answered.{opened_by, refused_by}
-use Rattle.timetable.proofs.Accepted.{accepted_iff}
 use Rattle.model.proofs.Operations.{built_refused, built_done}
+use Rattle.std.proofs.lemmas.Result.{err_from_is_err_and}
 use Rattle.building.proofs.build.Goals as goal
 
-pub returns-in_default : goal.returns-in_default
-returns-in_default c =
+pub returns-in_err-timetable : goal.returns-in_err-timetable
+returns-in_err-timetable c =
     let day : Day = day_of c.args.file.now in
     let areas : Areas = lent c.args.notices.now c.args.graph.now in
-    let e = c.in_default.is in
-    rw e (built_refused day areas _ _ (rw (refused_by c.args.file.now c.check-checked.result c.check-checked.ensures _ _ e)))
+    let p = err_from_is_err_and c.from_residual.result c.from_residual.ensures.1 in
+    rw (p.1, p.2) (built_refused day areas _ _ (rw (← c.in_err-timetable.ensures.verdict)))
 
-pub room_verdict-verdict-requires : goal.room_verdict-verdict-requires
-room_verdict-verdict-requires c =
-    let opened : Opened c.args.file.now c.in-Accepted.stops c.in-Accepted.connections = opened_by c.args.file.now c.check-checked.result c.check-checked.ensures _ _ c.in-Accepted.is in
-    opened.timetable
-
-pub returns-in-Refused : goal.returns-in-Refused
-returns-in-Refused c =
+pub returns-in_err-room_verdict : goal.returns-in_err-room_verdict
+returns-in_err-room_verdict c =
     let day : Day = day_of c.args.file.now in
     let areas : Areas = lent c.args.notices.now c.args.graph.now in
-    let opened : Opened c.args.file.now c.in-Accepted.stops c.in-Accepted.connections = opened_by c.args.file.now c.check-checked.result c.check-checked.ensures _ _ c.in-Accepted.is in
-    built_refused day areas _ _ (rw ((accepted_iff c.args.file.now).1 opened.timetable) (sym c.room_verdict-verdict.ensures ∙ c.in-Refused.is))
+    let p = err_from_is_err_and c.from_residual-in_err-room_verdict.result c.from_residual-in_err-room_verdict.ensures.1 in
+    let refused = rw c.in_ok-timetable.ensures.of_the_file at c.in_err-room_verdict.ensures in
+    rw (p.1, p.2) (built_refused day areas _ _ (rw (← c.in_ok-timetable.ensures.verdict) (sym refused)))
 
 pub clear_all-requires : goal.clear_all-requires
 clear_all-requires c =
-    let day : Day = day_of c.args.file.now in
-    let areas : Areas = lent c.args.notices.now c.args.graph.now in
-    let opened : Opened c.args.file.now c.in-Accepted.stops c.in-Accepted.connections = opened_by c.args.file.now c.check-checked.result c.check-checked.ensures _ _ c.in-Accepted.is in
-    let long-enough : room_verdict day areas ≡ Passed = sym c.room_verdict-verdict.ensures ∙ c.in-Passed.is in
-    (opened, long-enough)
+    sym c.in_ok-room_verdict.ensures
 
 pub returns : goal.returns
 returns c =
     let day : Day = day_of c.args.file.now in
     let areas : Areas = lent c.args.notices.now c.args.graph.now in
-    let opened : Opened c.args.file.now c.in-Accepted.stops c.in-Accepted.connections = opened_by c.args.file.now c.check-checked.result c.check-checked.ensures _ _ c.in-Accepted.is in
-    let long-enough : room_verdict day areas ≡ Passed = sym c.room_verdict-verdict.ensures ∙ c.in-Passed.is in
-    built_done day areas _ _ _ opened long-enough c.clear_all.ensures
+    let opened : Opened c.args.file.now c.in_ok-timetable.timetable.stops c.in_ok-timetable.timetable.connections =
+    rw c.in_ok-timetable.ensures.of_the_file at c.in_ok-timetable.timetable.opened in
+    let room : room_verdict day areas ≡ Passed = sym (rw c.in_ok-timetable.ensures.of_the_file at c.in_ok-room_verdict.ensures) in
+    built_done day areas _ _ _ opened room (rw c.in_ok-timetable.ensures.of_the_file at c.clear_all.ensures)

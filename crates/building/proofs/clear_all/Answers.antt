@@ -10,21 +10,21 @@ use Rattle.building.proofs.clear_all.Goals as goal
 
 pub clear_rows-requires : goal.clear_rows-requires
 clear_rows-requires c =
-    let day : Day = day_of c.args.file.now in
+    let day : Day = day_of c.args.timetable.file.now in
     let areas : Areas = lent c.args.notices.now c.args.graph.now in
-    (room_long day areas c.requires.1).0
+    (room_long day areas c.requires).0
 
 pub fill_graph-requires : goal.fill_graph-requires
 fill_graph-requires c =
-    let day : Day = day_of c.args.file.now in
+    let day : Day = day_of c.args.timetable.file.now in
     let areas : Areas = lent c.args.notices.now c.args.graph.now in
-    let formed : WellFormed (connections c.args.file.now) [] = none_formed (connections c.args.file.now) in
-    let standing = written_standing (connections c.args.file.now) [] _ _ c.clear_rows.ensures formed in
-    (c.requires.0, standing.0, (room_long day areas c.requires.1).1)
+    let formed : WellFormed (connections c.args.timetable.file.now) [] = none_formed (connections c.args.timetable.file.now) in
+    let standing = written_standing (connections c.args.timetable.file.now) [] _ _ c.clear_rows.ensures formed in
+    (standing.0, (room_long day areas c.requires).1)
 
 pub returns : goal.returns
 returns c =
-    let day : Day = day_of c.args.file.now in
+    let day : Day = day_of c.args.timetable.file.now in
     let areas : Areas = lent c.args.notices.now c.args.graph.now in
-    let formed : WellFormed (connections c.args.file.now) [] = none_formed (connections c.args.file.now) in
+    let formed : WellFormed (connections c.args.timetable.file.now) [] = none_formed (connections c.args.timetable.file.now) in
     both_written day areas [] _ _ formed c.clear_rows.ensures c.fill_graph.ensures

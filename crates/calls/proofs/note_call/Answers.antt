@@ -5,7 +5,8 @@ use Rattle.calls.proofs.note_call.Goals as goal
 
 pub enter-requires : goal.enter-requires
 enter-requires c =
-    ((c.args.n, c.requires.0), (posting_formed c.args.n (rows_of c.args.notices.now) c.in-Post.number c.in-Post.connection c.in-Post.delay c.requires.0.rows (rw c.in-Post.is at c.requires.1)).fits)
+    let n = c.in-Post.notice in
+    ((c.args.n, c.requires.0), (posting_formed c.args.n (rows_of c.args.notices.now) n.number n.connection n.delay c.requires.0.rows (rw c.in-Post.is at c.requires.1)).fits)
 
 pub strike-requires : goal.strike-requires
 strike-requires c =

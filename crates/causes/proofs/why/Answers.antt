@@ -4,38 +4,39 @@ use mathlib.Core.Path.{◌≡◌, sym, ◌∙◌, ap}
 use native.Mathlib.Omega.{arith}
 use Rattle.timetable.specs.File.{connections}
 use Rattle.timetable.specs.Accepted.{Opened}
-use Rattle.timetable.specs.Check.{told_counts}
+use Rattle.refusals.specs.Answers.{told}
 use Rattle.timetable.proofs.Accepted.{accepted_iff}
 use Rattle.timetable.proofs.Answered.{opened_by, refused_by}
 use Rattle.model.specs.Operations.{why_verdict, explained}
 use Rattle.model.proofs.Why.{why_passed}
+use Rattle.std.proofs.lemmas.Result.{err_from_is_err_and}
 use Rattle.causes.proofs.why.Goals as goal
 
-pub returns-in_default : goal.returns-in_default
+pub returns-in_err-timetable : goal.returns-in_err-timetable
 unfolding explained
-returns-in_default c =
-    let e = c.in_default.is in
-    rw (c.refused_why.ensures _ _ (ap told_counts e), refused_by c.args.file.now c.check-checked.result c.check-checked.ensures _ _ e)
+returns-in_err-timetable c =
+    let p = err_from_is_err_and c.from_residual.result c.from_residual.ensures.1 in
+    rw (p.1, p.2, ← c.in_err-timetable.ensures.verdict)
 
 pub primary_delay-requires : goal.primary_delay-requires
 primary_delay-requires c =
-    let opened : Opened c.args.file.now c.in-Accepted.field-0 c.in-Accepted.connections = opened_by c.args.file.now c.check-checked.result c.check-checked.ensures _ _ c.in-Accepted.is in
-    let asked : c.why_verdict-verdict.result ≡ why_verdict (connections c.args.file.now) c.args.notices.now c.args.connection = rw (← opened.connections) c.why_verdict-verdict.ensures in
-    let o = opened in
+    let opened : Opened c.args.file.now c.in_ok-timetable.timetable.stops c.in_ok-timetable.timetable.connections =
+    rw c.in_ok-timetable.ensures.of_the_file at c.in_ok-timetable.timetable.opened in
     let a = c.args in
-    let p = why_passed (connections a.file.now) a.notices.now a.connection (sym asked ∙ c.in-Passed.is) in
-    ((connections a.file.now, p.rows), omega (arith, p.exists, o.timetable.few))
+    let p = why_passed (connections a.file.now) a.notices.now a.connection (rw (← opened.connections) (sym c.in_ok-why_verdict.ensures)) in
+    ((connections a.file.now, p.rows), omega (arith, p.exists, opened.timetable.few))
 
-pub returns-in-Refused : goal.returns-in-Refused
+pub returns-in_err-why_verdict : goal.returns-in_err-why_verdict
 unfolding explained
-returns-in-Refused c =
-    let opened : Opened c.args.file.now c.in-Accepted.field-0 c.in-Accepted.connections = opened_by c.args.file.now c.check-checked.result c.check-checked.ensures _ _ c.in-Accepted.is in
-    let asked : c.why_verdict-verdict.result ≡ why_verdict (connections c.args.file.now) c.args.notices.now c.args.connection = rw (← opened.connections) c.why_verdict-verdict.ensures in
-    rw ((accepted_iff _).1 opened.timetable, sym asked ∙ c.in-Refused.is)
+returns-in_err-why_verdict c =
+    let opened : Opened c.args.file.now c.in_ok-timetable.timetable.stops c.in_ok-timetable.timetable.connections =
+    rw c.in_ok-timetable.ensures.of_the_file at c.in_ok-timetable.timetable.opened in
+    let p = err_from_is_err_and c.from_residual-in_err-why_verdict.result c.from_residual-in_err-why_verdict.ensures.1 in
+    rw (p.1, p.2, ← c.in_ok-timetable.ensures.verdict, ← opened.connections, ← c.in_err-why_verdict.ensures)
 
-pub returns-in-Passed : goal.returns-in-Passed
+pub returns : goal.returns
 unfolding explained
-returns-in-Passed c =
-    let opened : Opened c.args.file.now c.in-Accepted.field-0 c.in-Accepted.connections = opened_by c.args.file.now c.check-checked.result c.check-checked.ensures _ _ c.in-Accepted.is in
-    let asked : c.why_verdict-verdict.result ≡ why_verdict (connections c.args.file.now) c.args.notices.now c.args.connection = rw (← opened.connections) c.why_verdict-verdict.ensures in
-    rw ((accepted_iff _).1 opened.timetable, sym asked ∙ c.in-Passed.is, c.primary_delay.ensures)
+returns c =
+    let opened : Opened c.args.file.now c.in_ok-timetable.timetable.stops c.in_ok-timetable.timetable.connections =
+    rw c.in_ok-timetable.ensures.of_the_file at c.in_ok-timetable.timetable.opened in
+    rw (← c.in_ok-timetable.ensures.verdict, ← opened.connections, ← c.in_ok-why_verdict.ensures, c.primary_delay.ensures)

@@ -1,32 +1,48 @@
 -- `certificate::links_right` meets its contract: lists that fail a step are not right, and those that pass all four are. Assumes nothing.
-use Rattle.links.proofs.Telling.{tells_no, tells_as, told_yes, told_no}
+use mathlib.Core.Path.{◌≡◌}
+use native.Mathlib.Numerals.{add-one}
+use native.Mathlib.Omega.{arith}
+use borrow.Author.Count.{below_more}
+use Rattle.boards.proofs.Opened.{timed_by}
+use Rattle.links.proofs.Telling.{tells_no, tells_as}
 use Rattle.certificate.proofs.Whole.{firsts_pass, nexts_pass, marks_pass, changes_pass, passed_right}
-use Rattle.std.proofs.Common.{ap, not}
 use Rattle.certificate.proofs.links_right.Goals as goal
 
-pub returns-then-not-link_firsts : goal.returns-then-not-link_firsts
-returns-then-not-link_firsts c =
-    tells_no (λ r. told_no c.link_firsts.ensures.tells (ap not c.if-not-link_firsts.true) (firsts_pass c.requires.0 r))
+pub returns-then-not-link_first : goal.returns-then-not-link_first
+returns-then-not-link_first c =
+    tells_no (λ r. let t = c.link_first.ensures.tells.1 (firsts_pass (timed_by c.args.shown) r _ c.loop-b-test.true) in cc)
 
-pub link_nexts-requires : goal.link_nexts-requires
-link_nexts-requires c =
-    let p = c.requires in
-    (p.0, record { marks = c.link_firsts.ensures.leaves c.if-not-link_firsts.false; lasts = p.1.lasts })
+pub loop-b-preserved : goal.loop-b-preserved
+loop-b-preserved c =
+    let s = c.link_first.ensures in
+    (below_more _ _ c.loop-b.invariant.0 (s.tells.0 c.if-not-link_first.false), rw (add-one c.loop-b.b) (s.leaves c.if-not-link_first.false))
 
-pub returns-then-not-link_nexts : goal.returns-then-not-link_nexts
-returns-then-not-link_nexts c =
-    tells_no (λ r. told_no c.link_nexts.ensures.tells (ap not c.if-not-link_nexts.true) (nexts_pass c.requires.0 r))
+pub returns-then-not-link_next : goal.returns-then-not-link_next
+returns-then-not-link_next c =
+    tells_no (λ r. let t = c.link_next.ensures.tells.1 (nexts_pass (timed_by c.args.shown) r _ c.loop-c-test.true) in cc)
+
+pub loop-c-preserved : goal.loop-c-preserved
+loop-c-preserved c =
+    let s = c.link_next.ensures in
+    (below_more _ _ c.loop-c.invariant.0 (s.tells.0 c.if-not-link_next.false), rw (add-one c.loop-c.c) (s.leaves c.if-not-link_next.false))
 
 pub returns-then-not-all_marked : goal.returns-then-not-all_marked
 returns-then-not-all_marked c =
-    let linked = c.link_nexts.ensures.leaves c.if-not-link_nexts.false in
-    tells_no (λ r. told_no c.all_marked.ensures (ap not c.if-not-all_marked.true) (marks_pass c.requires.0 linked r))
+    let e : c.loop-c.c ≡ c.args.shown.timetable.connections = omega arith in
+    let linked = rw e at c.loop-c.invariant.1 in
+    tells_no (λ r. let t = c.all_marked.ensures.1 (marks_pass (timed_by c.args.shown) linked r) in cc)
+
+pub changes_right-requires : goal.changes_right-requires
+changes_right-requires c =
+    let e : c.loop-c.c ≡ c.args.shown.timetable.connections = omega arith in
+    rw e at c.loop-c.invariant.1
 
 pub returns : goal.returns
 returns c =
-    let l = c.requires.0 in
-    let linked = c.link_nexts.ensures.leaves c.if-not-link_nexts.false in
-    let full = told_yes c.all_marked.ensures (ap not c.if-not-all_marked.false) in
+    let l = timed_by c.args.shown in
+    let e : c.loop-c.c ≡ c.args.shown.timetable.connections = omega arith in
+    let linked = rw e at c.loop-c.invariant.1 in
+    let full = c.all_marked.ensures.0 c.if-not-all_marked.false in
     tells_as c.changes_right.ensures
-    (passed_right l linked full (told_yes c.link_firsts.ensures.tells (ap not c.if-not-link_firsts.false)) (told_yes c.link_nexts.ensures.tells (ap not c.if-not-link_nexts.false)))
+    (passed_right l linked full (λ k h. c.loop-b.invariant.0 k (omega arith)) (λ k h. c.loop-c.invariant.0 k (omega arith)))
     (changes_pass l linked full)

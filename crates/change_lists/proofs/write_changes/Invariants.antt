@@ -1,5 +1,4 @@
 -- `change_lists::write_changes` meets its contract: each turn writes the line of one stop more. Assumes nothing.
-use Prim.Native.Nat.{◌-◌, ◌≤◌}
 use lib.ListN.{take}
 use Rattle.numbers.specs.Numbers.{numbers_of}
 use Rattle.decimals.specs.Written.{Written}
@@ -8,9 +7,4 @@ use Rattle.change_lists.specs.ChangeText.{numbers_text}
 use Rattle.change_lists.proofs.write_changes.Given as goal
 
 abbrev pub invariant-loop-stop : goal.invariant-loop-stop
-invariant-loop-stop l =
-    (l.stop ≤ l.s) × Written l.at l.out l.initial.out 0 (numbers_text (take l.stop (numbers_of (transfers_in l.file))))
-
-abbrev pub decreases-loop-stop : goal.decreases-loop-stop
-decreases-loop-stop l =
-    l.s - l.stop
+invariant-loop-stop l = Written l.at l.out l.initial.out 0 (numbers_text (take l.stop (numbers_of (transfers_in l.timetable.file.now))))

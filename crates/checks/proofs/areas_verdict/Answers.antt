@@ -1,15 +1,17 @@
 -- `checks::areas_verdict` meets its contract. Assumes nothing.
 use mathlib.Core.Path.{sym, ◌∙◌}
+use Rattle.std.proofs.lemmas.Result.{err_from_is_err_and}
 use Rattle.checks.proofs.areas_verdict.Goals as goal
 
-pub returns-in-Refused : goal.returns-in-Refused
-returns-in-Refused c =
-    rw (← c.room_verdict-verdict.ensures, c.in-Refused.is)
+pub returns-in_err-room_verdict : goal.returns-in_err-room_verdict
+returns-in_err-room_verdict c =
+    let p = err_from_is_err_and c.from_residual.result c.from_residual.ensures.1 in
+    rw (p.1, p.2, ← c.in_err-room_verdict.ensures)
 
 pub contents_verdict-requires : goal.contents_verdict-requires
 contents_verdict-requires c =
-    (c.requires, sym c.room_verdict-verdict.ensures ∙ c.in-Passed.is)
+    sym c.in_ok-room_verdict.ensures
 
 pub returns : goal.returns
 returns c =
-    rw (← c.room_verdict-verdict.ensures, c.in-Passed.is) c.contents_verdict.ensures
+    rw (← c.in_ok-room_verdict.ensures) c.contents_verdict.ensures

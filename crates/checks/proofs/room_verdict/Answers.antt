@@ -16,10 +16,10 @@ pub returns-then-graph-n : goal.returns-then-graph-n
 unfolding part_verdict
 returns-then-graph-n c =
     let a = c.args in
-    rw (le-ltb (length a.notices.now) notices_length (omega arith), lt-ltb (length a.graph.now) (graph_length a.file.now) (omega arith))
+    rw (le-ltb (length a.notices.now) notices_length (omega arith), lt-ltb (length a.graph.now) (graph_length a.timetable.file.now) (omega arith))
 
 pub returns : goal.returns
 unfolding part_verdict
 returns c =
     let a = c.args in
-    rw (le-ltb (length a.notices.now) notices_length (omega arith), le-ltb (length a.graph.now) (graph_length a.file.now) (omega arith))
+    rw (le-ltb (length a.notices.now) notices_length (omega arith), le-ltb (length a.graph.now) (graph_length a.timetable.file.now) (omega arith))

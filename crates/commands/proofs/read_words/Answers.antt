@@ -1,30 +1,42 @@
--- `commands::read_words` meets its contract: the first word, and the numbers after it. Assumes nothing.
-use Prim.Native.Nat.{◌-◌}
-use native.Mathlib.Omega.{arith}
-use lib.ListN.{length, drop, length-drop}
-use lib.Seq.{take_all}
-use Rattle.decimals.specs.Bytes.{space}
-use Rattle.cuts.proofs.Pieces.{piece_within}
-use Rattle.commands.specs.Commands.{meant}
-use Rattle.commands.proofs.Words.{word_split}
+-- `commands::read_words` meets its contract: the first word, and the numbers word by word. Assumes nothing.
+use mathlib.Core.Path.{refl, sym, ◌∙◌}
+use Rattle.std.proofs.Common.{rules, tests}
+use Rattle.commands.proofs.Words.{word_given, said_first, said_next, said_none}
 use Rattle.commands.proofs.read_words.Goals as goal
 
-pub slice_bounds-read_numbers-count : goal.slice_bounds-read_numbers-count
-slice_bounds-read_numbers-count c =
-    piece_within space c.args.text.now 0 c.end_of-end.result c.end_of-end.ensures (omega arith)
+pub loop-word-init : goal.loop-word-init
+loop-word-init c =
+    let step = rw c.in_ok-first.was at c.next.ensures.steps in
+    let e = word_given _ _ _ _ step (λ a r q k. search (rules, tests)) in
+    let given = rw (c.split-words.ensures.rest, c.split-words.ensures.done) at e in
+    record {
+      goes_on = search rules;
+      ends = search rules;
+      says = rw c.into_iter-word-iterator.ensures.into_iter_gives (said_first _ _ _ given);
+    }
 
-pub slice_bounds-read_numbers-start : goal.slice_bounds-read_numbers-start
-slice_bounds-read_numbers-start c =
-    piece_within space c.args.text.now 0 c.end_of-end.result c.end_of-end.ensures (omega arith)
+pub loop-word-preserved : goal.loop-word-preserved
+loop-word-preserved c =
+    let step = rw c.in-Some.is at c.next-in-loop-word.ensures.steps in
+    let e = word_given _ _ _ _ step (λ a r q k. search (rules, tests)) in
+    let h = sym c.with_number.ensures ∙ c.in_ok-numbers.was in
+    record {
+      goes_on = search rules;
+      ends = search rules;
+      says = c.loop-word.invariant.says ∙ said_next _ _ _ _ _ _ e (sym c.in_ok-read_number.was ∙ c.read_number.ensures) _ h;
+    }
 
-pub slice_bounds-asked-end : goal.slice_bounds-asked-end
-slice_bounds-asked-end c =
-    piece_within space c.args.text.now 0 c.end_of-end.result c.end_of-end.ensures (omega arith)
+pub returns-in_err-read_number : goal.returns-in_err-read_number
+returns-in_err-read_number c =
+    let step = rw c.in-Some.is at c.next-in-loop-word.ensures.steps in
+    let e = word_given _ _ _ _ step (λ a r q k. search (rules, tests)) in
+    let none = said_none _ _ _ _ _ _ e (sym c.in_err-read_number.was ∙ c.read_number.ensures) refl in
+    c.from_residual-in_err-read_number.ensures ∙ sym (c.loop-word.invariant.says ∙ none)
 
-pub returns : goal.returns
-unfolding meant
-returns c =
-    let text = c.args.text.now in
-    let k = c.end_of-end.result in
-    let rest = take_all (length text - k) (drop k text) (omega (arith, length-drop k text)) in
-    rw (word_split text 0 k c.end_of-end.ensures, ← rest, ← c.read_numbers-numbers.ensures) c.asked.ensures
+pub returns-in_err-numbers : goal.returns-in_err-numbers
+returns-in_err-numbers c =
+    let step = rw c.in-Some.is at c.next-in-loop-word.ensures.steps in
+    let e = word_given _ _ _ _ step (λ a r q k. search (rules, tests)) in
+    let h = sym c.with_number.ensures ∙ c.in_err-numbers.was in
+    let none = said_none _ _ _ _ _ _ e (sym c.in_ok-read_number.was ∙ c.read_number.ensures) h in
+    c.from_residual-in_err-numbers.ensures ∙ sym (c.loop-word.invariant.says ∙ none)

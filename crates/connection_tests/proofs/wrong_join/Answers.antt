@@ -6,14 +6,14 @@ use Rattle.connection_tests.proofs.wrong_join.Goals as goal
 pub breaks_off-requires : goal.breaks_off-requires
 breaks_off-requires c =
     let a = c.args in
-    (c.requires, aboard_later a.file.now a.c (sym c.stays_aboard.ensures ∙ c.if-stays_aboard.true))
+    (c.requires, aboard_later a.fields.file.now a.c (sym c.stays_aboard.ensures ∙ c.if-stays_aboard.true))
 
 pub returns-then-stays_aboard : goal.returns-then-stays_aboard
 returns-then-stays_aboard c =
     let a = c.args in
-    rw c.breaks_off.ensures (sym (join_next a.file.now a.c (sym c.stays_aboard.ensures ∙ c.if-stays_aboard.true)))
+    rw c.breaks_off.ensures (sym (join_next a.fields.file.now a.c (sym c.stays_aboard.ensures ∙ c.if-stays_aboard.true)))
 
 pub returns : goal.returns
 returns c =
     let a = c.args in
-    sym (join_none a.file.now a.c (sym c.stays_aboard.ensures ∙ c.if-stays_aboard.false))
+    sym (join_none a.fields.file.now a.c (sym c.stays_aboard.ensures ∙ c.if-stays_aboard.false))

@@ -10,21 +10,21 @@ pub returns-then-stops-start : goal.returns-then-stops-start
 unfolding wrong_stops
 returns-then-stops-start c =
     let a = c.args in
-    let h : stops a.file.now ≤ from a.file.now a.c = omega arith in
+    let h : stops a.fields.file.now ≤ from a.fields.file.now a.c = omega arith in
     rw (le-leb _ _ h)
 
 pub returns-then-stops-end : goal.returns-then-stops-end
 unfolding wrong_stops
 returns-then-stops-end c =
     let a = c.args in
-    let g : from a.file.now a.c < stops a.file.now = omega arith in
-    let h : stops a.file.now ≤ to a.file.now a.c = omega arith in
+    let g : from a.fields.file.now a.c < stops a.fields.file.now = omega arith in
+    let h : stops a.fields.file.now ≤ to a.fields.file.now a.c = omega arith in
     rw (lt-leb _ _ g, le-leb _ _ h)
 
 pub returns : goal.returns
 unfolding wrong_stops
 returns c =
     let a = c.args in
-    let g : from a.file.now a.c < stops a.file.now = omega arith in
-    let h : to a.file.now a.c < stops a.file.now = omega arith in
+    let g : from a.fields.file.now a.c < stops a.fields.file.now = omega arith in
+    let h : to a.fields.file.now a.c < stops a.fields.file.now = omega arith in
     rw (lt-leb _ _ g, lt-leb _ _ h, c.from-start.ensures, c.to-end.ensures)

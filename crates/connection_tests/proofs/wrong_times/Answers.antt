@@ -10,12 +10,12 @@ pub returns-then-arrival-departure : goal.returns-then-arrival-departure
 unfolding wrong_times
 returns-then-arrival-departure c =
     let a = c.args in
-    let h : scheduled_arrival a.file.now a.c ≤ scheduled_departure a.file.now a.c = omega arith in
+    let h : scheduled_arrival a.fields.file.now a.c ≤ scheduled_departure a.fields.file.now a.c = omega arith in
     rw (le-leb _ _ h)
 
 pub returns : goal.returns
 unfolding wrong_times
 returns c =
     let a = c.args in
-    let h : scheduled_departure a.file.now a.c < scheduled_arrival a.file.now a.c = omega arith in
+    let h : scheduled_departure a.fields.file.now a.c < scheduled_arrival a.fields.file.now a.c = omega arith in
     rw (lt-leb _ _ h, c.scheduled_arrival-arrival.ensures)

@@ -13,9 +13,9 @@ returns-then-c-eq0 c =
 pub returns-then-own-before : goal.returns-then-own-before
 returns-then-own-before c =
     let a = c.args in
-    sym (trip_lower a.file.now a.c (omega arith) (omega (arith, c.trip-own.ensures, c.trip-before.ensures)))
+    sym (trip_lower a.fields.file.now a.c (omega arith) (omega (arith, c.trip-own.ensures, c.trip-before.ensures)))
 
 pub returns : goal.returns
 returns c =
     let a = c.args in
-    rw (c.trip-own.ensures, c.trip-before.ensures) (sym (trip_higher a.file.now a.c (omega arith) (omega (arith, c.trip-own.ensures, c.trip-before.ensures))))
+    rw (c.trip-own.ensures, c.trip-before.ensures) (sym (trip_higher a.fields.file.now a.c (omega arith) (omega (arith, c.trip-own.ensures, c.trip-before.ensures))))

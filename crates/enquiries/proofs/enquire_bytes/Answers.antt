@@ -1,11 +1,14 @@
--- `enquiries::enquire_bytes` meets its contract: the arrays lent fit the fronts. Assumes nothing.
-use native.Mathlib.Omega.{arith}
+-- `enquiries::enquire_bytes` meets its contract: an enquiry on the fronts leaves what it leaves of the areas. Assumes nothing.
+use Rattle.std.proofs.Common.{rules}
+use Rattle.model.specs.Day.{day_of}
+use Rattle.enquiries.proofs.Enquired.{found_room, enquiry_written}
 use Rattle.enquiries.proofs.enquire_bytes.Goals as goal
 
-pub enquire_fronts-requires : goal.enquire_fronts-requires
-enquire_fronts-requires c =
-    record { fronts_fit = record { first_fits = omega (arith, c.front_length-k.ensures); second_fits = omega (arith, c.front_length-m.ensures) }; fronts_fit_2 = record { first_fits = omega (arith, c.front_length-u.ensures); second_fits = omega (arith, c.front_length-v.ensures) } }
+pub write_found-requires : goal.write_found-requires
+write_found-requires c =
+    found_room (day_of _) _ _ _ _ _ _ _ _ _ c.enquire-answer.auto.work c.enquire-answer.auto.journey c.enquire-answer.ensures.is
 
 pub returns : goal.returns
 returns c =
-    c.enquire_fronts.ensures
+    enquiry_written c.read_both-n.ensures c.read_both-w.ensures (search rules) (search rules) (day_of _) _ _ _
+    c.enquire-answer.auto.work c.enquire-answer.auto.journey c.enquire-answer.ensures.is c.write_found.ensures c.code.ensures

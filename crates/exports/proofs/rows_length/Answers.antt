@@ -10,32 +10,24 @@ use Rattle.gtfs.specs.Rows.{start_row, end_row}
 use Rattle.gtfs.proofs.Rows.{stay_text, begin_length, start_short, end_short}
 use Rattle.exports.proofs.rows_length.Goals as goal
 
-pub end_row-requires : goal.end_row-requires
-end_row-requires c =
-    c.requires
-
-pub start_row-requires : goal.start_row-requires
-start_row-requires c =
-    c.requires.connection
-
 pub overflow_add-result : goal.overflow_add-result
 overflow_add-result c =
-    let last_row : c.row_length-length.result ≡ length (row_text (end_row c.args.file.now c.args.c)) = c.row_length-length.ensures ∙ ap (λ (row : StopTime). length (row_text row)) c.end_row.ensures in
-    let first_row : c.row_length.result ≡ length (row_text (start_row c.args.file.now c.args.c)) = c.row_length.ensures ∙ ap (λ (row : StopTime). length (row_text row)) c.start_row.ensures in
-    let f = c.args.file.now in
-    let o = c.requires.connection.opened in
-    let h : c.args.c < connections f = omega (arith, c.requires.connection.below, o.connections) in
+    let last_row : c.row_length-length.result ≡ length (row_text (end_row c.args.timetable.file.now c.args.c)) = c.row_length-length.ensures ∙ ap (λ (row : StopTime). length (row_text row)) c.end_row.ensures in
+    let first_row : c.row_length.result ≡ length (row_text (start_row c.args.timetable.file.now c.args.c)) = c.row_length.ensures ∙ ap (λ (row : StopTime). length (row_text row)) c.start_row.ensures in
+    let f = c.args.timetable.file.now in
+    let o = c.args.timetable.opened in
+    let h : c.args.c < connections f = omega (arith, c.requires.0, o.connections) in
     let s = start_short f o.timetable c.args.c h in
     record { fits = omega (arith, last_row, first_row, end_short f o.timetable c.args.c h) }
 
-pub returns-then-position-eq0 : goal.returns-then-position-eq0
-returns-then-position-eq0 c =
-    let last_row : c.row_length-length.result ≡ length (row_text (end_row c.args.file.now c.args.c)) = c.row_length-length.ensures ∙ ap (λ (row : StopTime). length (row_text row)) c.end_row.ensures in
-    let first_row : c.row_length.result ≡ length (row_text (start_row c.args.file.now c.args.c)) = c.row_length.ensures ∙ ap (λ (row : StopTime). length (row_text row)) c.start_row.ensures in
-    let e = begin_length c.args.file.now c.args.c (sym c.requires.place ∙ c.if-position-eq0.true) in
+pub returns-then-before-eq0 : goal.returns-then-before-eq0
+returns-then-before-eq0 c =
+    let last_row : c.row_length-length.result ≡ length (row_text (end_row c.args.timetable.file.now c.args.c)) = c.row_length-length.ensures ∙ ap (λ (row : StopTime). length (row_text row)) c.end_row.ensures in
+    let first_row : c.row_length.result ≡ length (row_text (start_row c.args.timetable.file.now c.args.c)) = c.row_length.ensures ∙ ap (λ (row : StopTime). length (row_text row)) c.start_row.ensures in
+    let e = begin_length c.args.timetable.file.now c.args.c (sym c.requires.1 ∙ c.if-before-eq0.true) in
     omega (arith, last_row, first_row, e)
 
 pub returns : goal.returns
 returns c =
-    let last_row : c.row_length-length.result ≡ length (row_text (end_row c.args.file.now c.args.c)) = c.row_length-length.ensures ∙ ap (λ (row : StopTime). length (row_text row)) c.end_row.ensures in
-    last_row ∙ sym (ap length (stay_text c.args.file.now c.args.c (λ e. c.if-position-eq0.false (c.requires.place ∙ e))))
+    let last_row : c.row_length-length.result ≡ length (row_text (end_row c.args.timetable.file.now c.args.c)) = c.row_length-length.ensures ∙ ap (λ (row : StopTime). length (row_text row)) c.end_row.ensures in
+    last_row ∙ sym (ap length (stay_text c.args.timetable.file.now c.args.c (λ e. c.if-before-eq0.false (c.requires.1 ∙ e))))

@@ -1,6 +1,6 @@
 -- `exports::text_length` meets its contract: the first line and the rows of the first c connections. Assumes nothing.
 use mathlib.Core.Path.{◌≡◌}
-use Prim.Native.Nat.{◌+◌, ◌-◌, ◌≤◌}
+use Prim.Native.Nat.{◌+◌}
 use lib.ListN.{length}
 use Rattle.gtfs.specs.StopTimes.{header_text}
 use Rattle.gtfs.proofs.Rows.{rows_up_to}
@@ -9,8 +9,4 @@ use Rattle.exports.proofs.text_length.Given as goal
 
 abbrev pub invariant-loop-c : goal.invariant-loop-c
 invariant-loop-c l =
-    (l.c ≤ l.n) × (l.size ≡ length header_text + length (rows_up_to l.file l.c)) × (l.position ≡ last_position l.file l.c)
-
-abbrev pub decreases-loop-c : goal.decreases-loop-c
-decreases-loop-c l =
-    l.n - l.c
+    (l.size ≡ length header_text + length (rows_up_to l.timetable.file.now l.c)) × (l.position ≡ last_position l.timetable.file.now l.c)

@@ -1,6 +1,5 @@
 -- `exports::write_text` meets its contract: the first line, then the rows of the first c connections. Assumes nothing.
 use mathlib.Core.Path.{◌≡◌}
-use Prim.Native.Nat.{◌-◌, ◌≤◌}
 use lib.ListN.{length}
 use Rattle.decimals.specs.Written.{Written}
 use Rattle.gtfs.proofs.Rows.{rows_up_to}
@@ -9,8 +8,6 @@ use Rattle.exports.proofs.write_text.Given as goal
 
 abbrev pub invariant-loop-c : goal.invariant-loop-c
 invariant-loop-c l =
-    (l.c ≤ l.n) × (length l.text ≡ length l.initial.text) × Written l.at l.text l.initial.text l.initial.at (rows_up_to l.file l.c) × (l.position ≡ last_position l.file l.c)
-
-abbrev pub decreases-loop-c : goal.decreases-loop-c
-decreases-loop-c l =
-    l.n - l.c
+    (length l.text ≡ length l.initial.text)
+    × Written l.at l.text l.initial.text l.initial.at (rows_up_to l.timetable.file.now l.c)
+    × (l.position ≡ last_position l.timetable.file.now l.c)

@@ -1,22 +1,12 @@
 -- `feeds::put_connection` meets its contract: the five numbers stand in the connection's place. Assumes nothing.
 use Prim.Native.Nat.{◌+◌, ◌*◌}
 use native.Mathlib.Omega.{arith}
-use borrow.Author.Tests.{eq-eqb, ne_eqb, le-ltb, lt-ltb}
+use borrow.Author.Tests.{eq-eqb, lt-ltb}
 use Rattle.timetable.specs.File.{connection_length}
-use Rattle.timetable.specs.Check.{max_connections}
 use Rattle.gtfs.specs.Files.{numbers_in}
 use Rattle.feeds.specs.Progress.{connection_to}
 use Rattle.numbers.proofs.Bytes.{numbers_placed}
 use Rattle.feeds.proofs.put_connection.Goals as goal
-
-pub returns-then-row-progress : goal.returns-then-row-progress
-returns-then-row-progress c =
-    rw (ne_eqb _ _ c.if-row-progress.true)
-
-pub returns-then-n-ge-MAX_CONNECTIONS : goal.returns-then-n-ge-MAX_CONNECTIONS
-returns-then-n-ge-MAX_CONNECTIONS c =
-    let n = c.args.progress.connections in
-    rw (eq-eqb _ _ c.if-row-progress.false, le-ltb n max_connections (omega arith))
 
 pub returns : goal.returns
 returns c =

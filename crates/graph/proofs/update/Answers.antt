@@ -1,60 +1,60 @@
 -- `graph::update` meets its contract. Assumes nothing.
-use mathlib.Core.Path.{◌≡◌, sym, ap, ◌∙◌}
-use mathlib.Core.List.{List}
+use mathlib.Core.Path.{◌≡◌, sym}
 use Rattle.timetable.specs.File.{connections}
+use Rattle.refusals.specs.Answers.{Passed}
 use Rattle.timetable.specs.Accepted.{Opened}
-use Rattle.timetable.specs.Check.{told_counts}
-use Rattle.timetable.specs.declared.Verdict.TheVariants.{Passed}
-use Rattle.model.specs.Notices.{Notice}
 use Rattle.model.specs.Day.{Day, Areas, day_of, lent}
 use Rattle.model.specs.Drawn.{standing}
-use Rattle.model.specs.Parts.{Ask, asked_verdict, open_verdict}
-use Rattle.calls.specs.Call.{asks_of, standing_after, number_in}
+use Rattle.model.specs.Parts.{asked_verdict}
 use Rattle.model.proofs.Operations.{open_refuses, own_refuses, accepts}
-use Rattle.model.proofs.Ready.{open_ready, opened_passed, opened_refused}
+use Rattle.model.proofs.Ready.{open_ready}
+use Rattle.calls.specs.Call.{asks_of, standing_after, number_in}
+use Rattle.std.proofs.lemmas.Result.{err_from_is_err_and}
 use Rattle.graph.proofs.update.Goals as goal
 
-pub returns-in_default : goal.returns-in_default
-returns-in_default c =
+pub returns-in_err-timetable : goal.returns-in_err-timetable
+returns-in_err-timetable c =
     let day : Day = day_of c.args.file.now in
     let areas : Areas = lent c.args.notices.now c.args.graph.now in
-    let asked : List Ask = asks_of (connections c.args.file.now) c.args.call in
-    let after : List Notice → List Notice = standing_after c.args.call in
-    let e = c.in_default.is in
-    rw (c.refused.ensures _ _ (ap told_counts e))
-    (open_refuses day areas asked (number_in c.args.call) after _ _ (opened_refused day areas c.examine-examined.result c.examine-examined.ensures _ _ e))
+    let p = err_from_is_err_and c.from_residual.result c.from_residual.ensures.1 in
+    rw (p.1, p.2)
+    (open_refuses day areas (asks_of (connections c.args.file.now) c.args.call) (number_in c.args.call) (standing_after c.args.call) _ _
+    (sym c.in_err-timetable.ensures.verdict))
 
-pub call_verdict-verdict-requires : goal.call_verdict-verdict-requires
-call_verdict-verdict-requires c =
+pub call_verdict-requires : goal.call_verdict-requires
+call_verdict-requires c =
     let day : Day = day_of c.args.file.now in
     let areas : Areas = lent c.args.notices.now c.args.graph.now in
-    let opened : (open_verdict day areas ≡ Passed) × Opened c.args.file.now c.in-Accepted.stops c.in-Accepted.connections = opened_passed day areas c.examine-examined.result c.examine-examined.ensures _ _ c.in-Accepted.is in
-    (connections c.args.file.now, (open_ready day areas opened.0).rows)
+    (connections c.args.file.now, (open_ready day areas (sym c.in_ok-timetable.ensures.verdict)).rows)
 
-pub returns-in-Refused : goal.returns-in-Refused
-returns-in-Refused c =
+pub returns-in_err-call_verdict : goal.returns-in_err-call_verdict
+returns-in_err-call_verdict c =
     let day : Day = day_of c.args.file.now in
     let areas : Areas = lent c.args.notices.now c.args.graph.now in
-    let asked : List Ask = asks_of (connections c.args.file.now) c.args.call in
-    let after : List Notice → List Notice = standing_after c.args.call in
-    let opened : (open_verdict day areas ≡ Passed) × Opened c.args.file.now c.in-Accepted.stops c.in-Accepted.connections = opened_passed day areas c.examine-examined.result c.examine-examined.ensures _ _ c.in-Accepted.is in
-    own_refuses day areas asked (number_in c.args.call) after _ _ opened.0
-    (rw (← opened.1.connections) (sym c.call_verdict-verdict.ensures ∙ c.in-Refused.is))
+    let opened : Opened c.args.file.now c.in_ok-timetable.timetable.stops c.in_ok-timetable.timetable.connections =
+    rw c.in_ok-timetable.ensures.of_the_file at c.in_ok-timetable.timetable.opened in
+    let p = err_from_is_err_and c.from_residual-in_err-call_verdict.result c.from_residual-in_err-call_verdict.ensures.1 in
+    rw (p.1, p.2)
+    (own_refuses day areas (asks_of (connections c.args.file.now) c.args.call) (number_in c.args.call) (standing_after c.args.call) _ _
+    (sym c.in_ok-timetable.ensures.verdict) (rw (← opened.connections) (sym c.in_err-call_verdict.ensures)))
 
 pub work_call-requires : goal.work_call-requires
 work_call-requires c =
     let day : Day = day_of c.args.file.now in
     let areas : Areas = lent c.args.notices.now c.args.graph.now in
-    let opened : (open_verdict day areas ≡ Passed) × Opened c.args.file.now c.in-Accepted.stops c.in-Accepted.connections = opened_passed day areas c.examine-examined.result c.examine-examined.ensures _ _ c.in-Accepted.is in
-    record { opened = (opened.1, open_ready day areas opened.0); call_value = sym c.call_verdict-verdict.ensures ∙ c.in-Passed.is }
+    record {
+      ready = rw c.in_ok-timetable.ensures.of_the_file (open_ready day areas (sym c.in_ok-timetable.ensures.verdict));
+      call_value = sym c.in_ok-call_verdict.ensures;
+    }
 
 pub returns : goal.returns
 returns c =
     let day : Day = day_of c.args.file.now in
     let areas : Areas = lent c.args.notices.now c.args.graph.now in
-    let asked : List Ask = asks_of (connections c.args.file.now) c.args.call in
-    let after : List Notice → List Notice = standing_after c.args.call in
-    let opened : (open_verdict day areas ≡ Passed) × Opened c.args.file.now c.in-Accepted.stops c.in-Accepted.connections = opened_passed day areas c.examine-examined.result c.examine-examined.ensures _ _ c.in-Accepted.is in
-    let admitted : asked_verdict (standing areas) asked ≡ Passed = rw (← opened.1.connections) (sym c.call_verdict-verdict.ensures ∙ c.in-Passed.is) in
+    let opened : Opened c.args.file.now c.in_ok-timetable.timetable.stops c.in_ok-timetable.timetable.connections =
+    rw c.in_ok-timetable.ensures.of_the_file at c.in_ok-timetable.timetable.opened in
+    let admitted : asked_verdict (standing areas) (asks_of (connections c.args.file.now) c.args.call) ≡ Passed =
+    rw (← opened.connections) (sym c.in_ok-call_verdict.ensures) in
     rw c.number_of.ensures
-    (accepts day areas asked (number_in c.args.call) after _ opened.0 admitted c.work_call.ensures)
+    (accepts day areas (asks_of (connections c.args.file.now) c.args.call) (number_in c.args.call) (standing_after c.args.call) _
+    (sym c.in_ok-timetable.ensures.verdict) admitted (rw c.in_ok-timetable.ensures.of_the_file at c.work_call.ensures))

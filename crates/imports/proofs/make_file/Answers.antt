@@ -7,7 +7,7 @@ use lib.ListN.{length}
 use Rattle.numbers.specs.Numbers.{numbers_of}
 use Rattle.numbers.proofs.Areas.{length_numbers}
 use Rattle.timetable.specs.File.{header_length}
-use Rattle.timetable.specs.declared.Verdict.TheVariants.{Passed}
+use Rattle.refusals.specs.Answers.{Passed}
 use Rattle.gtfs.specs.Feed.{text_verdict}
 use Rattle.gtfs.specs.Conversions.{text_connections}
 use Rattle.gtfs.proofs.Imports.{no_stops, many_stops, many_connections, counts_pass, text_refused, counts_refused, file_decides}
@@ -19,12 +19,12 @@ use Rattle.imports.proofs.make_file.Goals as goal
 pub read_rows-rows-requires : goal.read_rows-rows-requires
 read_rows-rows-requires c =
     let a = c.args in
-    let at = header_length + 2 * c.at_most.result in
+    let at = header_length + 2 * c.min.result in
     mid_len at (at + connections_room) a.file.now (omega arith) ∙ omega arith
 
 pub returns-then-s-lt1 : goal.returns-then-s-lt1
 returns-then-s-lt1 c =
-    let passed : text_verdict c.args.text.now ≡ Passed = sym c.read_rows-rows.ensures.verdict ∙ ap verdict_in c.in-Connections.is in
+    let passed : text_verdict c.args.text.now ≡ Passed = sym c.read_rows-rows.ensures.verdict ∙ ap verdict_in c.in-Ok.is in
     let a = c.args in
     let s = length (numbers_of a.change.now) in
     let n = length (text_connections a.text.now) in
@@ -33,7 +33,7 @@ returns-then-s-lt1 c =
 
 pub returns-then-s-gt-MAX_STOPS : goal.returns-then-s-gt-MAX_STOPS
 returns-then-s-gt-MAX_STOPS c =
-    let passed : text_verdict c.args.text.now ≡ Passed = sym c.read_rows-rows.ensures.verdict ∙ ap verdict_in c.in-Connections.is in
+    let passed : text_verdict c.args.text.now ≡ Passed = sym c.read_rows-rows.ensures.verdict ∙ ap verdict_in c.in-Ok.is in
     let a = c.args in
     let s = length (numbers_of a.change.now) in
     let n = length (text_connections a.text.now) in
@@ -42,8 +42,8 @@ returns-then-s-gt-MAX_STOPS c =
 
 pub returns-then-n-gt-MAX_CONNECTIONS : goal.returns-then-n-gt-MAX_CONNECTIONS
 returns-then-n-gt-MAX_CONNECTIONS c =
-    let passed : text_verdict c.args.text.now ≡ Passed = sym c.read_rows-rows.ensures.verdict ∙ ap verdict_in c.in-Connections.is in
-    let counted : c.in-Connections.n ≡ length (text_connections c.args.text.now) = c.read_rows-rows.ensures.count c.in-Connections.n c.in-Connections.is in
+    let passed : text_verdict c.args.text.now ≡ Passed = sym c.read_rows-rows.ensures.verdict ∙ ap verdict_in c.in-Ok.is in
+    let counted : c.in-Ok.n ≡ length (text_connections c.args.text.now) = c.read_rows-rows.ensures.count c.in-Ok.n c.in-Ok.is in
     let a = c.args in
     let s = length (numbers_of a.change.now) in
     let n = length (text_connections a.text.now) in
@@ -61,24 +61,24 @@ finish_file-requires c =
       room = omega (arith, c.file-1.given);
     }
 
-pub returns-in-Wrong : goal.returns-in-Wrong
-returns-in-Wrong c =
+pub returns-in-Err : goal.returns-in-Err
+returns-in-Err c =
     let a = c.args in
-    made_refused _ (text_refused a.text.now a.change.now (sym c.read_rows-rows.ensures.verdict ∙ ap verdict_in c.in-Wrong.is))
+    made_refused _ (text_refused a.text.now a.change.now (sym c.read_rows-rows.ensures.verdict ∙ ap verdict_in c.in-Err.is))
 
 pub returns-else-n-gt-MAX_CONNECTIONS : goal.returns-else-n-gt-MAX_CONNECTIONS
 returns-else-n-gt-MAX_CONNECTIONS c =
-    let passed : text_verdict c.args.text.now ≡ Passed = sym c.read_rows-rows.ensures.verdict ∙ ap verdict_in c.in-Connections.is in
-    let counted : c.in-Connections.n ≡ length (text_connections c.args.text.now) = c.read_rows-rows.ensures.count c.in-Connections.n c.in-Connections.is in
+    let passed : text_verdict c.args.text.now ≡ Passed = sym c.read_rows-rows.ensures.verdict ∙ ap verdict_in c.in-Ok.is in
+    let counted : c.in-Ok.n ≡ length (text_connections c.args.text.now) = c.read_rows-rows.ensures.count c.in-Ok.n c.in-Ok.is in
     let a = c.args in
     let s = length (numbers_of a.change.now) in
     let n = length (text_connections a.text.now) in
     let l = length_numbers a.change.now in
-    let at = header_length + 2 * c.at_most.result in
+    let at = header_length + 2 * c.min.result in
     made_checked c.finish_file.ensures
     (file_of_text a.file.now c.read_rows-rows.new.area a.text.now a.change.now at (at + connections_room - at)
-    (length a.change.now / 2) c.in-Connections.n
+    (length a.change.now / 2) c.in-Ok.n
     (λ i. (c.shared_slice_known-2-1.given i).fits)
     (sym l) counted (omega arith) (omega arith) (omega (arith, mid_len at (at + connections_room) a.file.now (omega arith)))
-    (c.read_rows-rows.ensures.stands c.in-Connections.n c.in-Connections.is c.if-n-gt-MAX_CONNECTIONS.false))
+    (c.read_rows-rows.ensures.stands c.in-Ok.n c.in-Ok.is c.if-n-gt-MAX_CONNECTIONS.false))
     (file_decides a.text.now a.change.now passed (counts_pass s n (omega arith) (omega arith) (omega (arith, counted))))

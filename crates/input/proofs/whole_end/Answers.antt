@@ -14,4 +14,4 @@ returns-then-end-block c =
 pub returns-else-end-block : goal.returns-else-end-block
 returns-else-end-block c =
     let a = c.args in
-    rw (piece_last newline a.block.now a.at c.end_of-end.result c.end_of-end.ensures c.if-end-block.false) (omega arith)
+    rw (piece_last newline a.block.now a.at c.end_of-end.result c.end_of-end.ensures c.if-end-block.false)

@@ -1,35 +1,40 @@
 -- `margins::margin` meets its contract. Assumes nothing.
-use mathlib.Core.Path.{◌≡◌, ap}
-use Rattle.timetable.specs.Accepted.{Opened}
-use Rattle.timetable.specs.Check.{told_counts}
-use Rattle.timetable.specs.declared.Verdict.TheVariants.{Passed}
+use mathlib.Core.Path.{sym}
 use Rattle.model.specs.Day.{Day, Areas, day_of, lent}
-use Rattle.model.specs.Parts.{open_verdict}
-use Rattle.model.proofs.Ready.{open_ready, opened_passed, opened_refused}
-use Rattle.model.proofs.Shown.{readable}
+use Rattle.model.proofs.Ready.{open_ready}
+use Rattle.model.proofs.Shown.{readable, readable_room}
+use Rattle.std.proofs.lemmas.Result.{err_from_is_err_and}
 use Rattle.margins.proofs.Margins.{margined_refused, margined_shown, answered}
 use Rattle.margins.proofs.margin.Goals as goal
 
-pub returns-in_default : goal.returns-in_default
-returns-in_default c =
+pub returns-in_err-timetable : goal.returns-in_err-timetable
+returns-in_err-timetable c =
     let day : Day = day_of c.args.file.now in
     let areas : Areas = lent c.args.notices.now c.args.graph.now in
-    let e = c.in_default.is in
-    answered day areas c.args.connection c.args.next
-    (rw (c.refused_margin.ensures _ _ (ap told_counts e))
-    (margined_refused day areas c.args.connection c.args.next _ _ (opened_refused day areas c.examine-examined.result c.examine-examined.ensures _ _ e)))
+    let p = err_from_is_err_and c.from_residual.result c.from_residual.ensures.1 in
+    rw (p.1, p.2) (answered day areas c.args.connection c.args.next
+    (margined_refused day areas c.args.connection c.args.next _ _ (sym c.in_err-timetable.ensures.verdict)))
 
-pub margin_by-requires : goal.margin_by-requires
-margin_by-requires c =
+pub invariant_of-shown : goal.invariant_of-shown
+invariant_of-shown c =
     let day : Day = day_of c.args.file.now in
     let areas : Areas = lent c.args.notices.now c.args.graph.now in
-    let opened : (open_verdict day areas ≡ Passed) × Opened c.args.file.now c.in-Accepted.stops c.in-Accepted.connections = opened_passed day areas c.examine-examined.result c.examine-examined.ensures _ _ c.in-Accepted.is in
-    (opened.1, readable day areas (open_ready day areas opened.0))
+    let known = readable day areas (open_ready day areas (sym c.in_ok-timetable.ensures.verdict)) in
+    record {
+      sound = rw c.in_ok-timetable.ensures.of_the_file known.sound;
+      room = rw c.in_ok-timetable.ensures.of_the_file (readable_room _ _ known);
+    }
+
+pub invariant_of-margin_by : goal.invariant_of-margin_by
+invariant_of-margin_by c =
+    let day : Day = day_of c.args.file.now in
+    let areas : Areas = lent c.args.notices.now c.args.graph.now in
+    let known = readable day areas (open_ready day areas (sym c.in_ok-timetable.ensures.verdict)) in
+    record { drawn = rw c.in_ok-timetable.ensures.of_the_file known.drawn }
 
 pub returns : goal.returns
 returns c =
     let day : Day = day_of c.args.file.now in
     let areas : Areas = lent c.args.notices.now c.args.graph.now in
-    let opened : (open_verdict day areas ≡ Passed) × Opened c.args.file.now c.in-Accepted.stops c.in-Accepted.connections = opened_passed day areas c.examine-examined.result c.examine-examined.ensures _ _ c.in-Accepted.is in
     answered day areas c.args.connection c.args.next
-    (margined_shown day areas c.args.connection c.args.next _ opened.0 c.margin_by.ensures)
+    (margined_shown day areas c.args.connection c.args.next _ (sym c.in_ok-timetable.ensures.verdict) (rw c.in_ok-timetable.ensures.of_the_file at c.margin_by.ensures))

@@ -1,27 +1,24 @@
 -- The number is looked for row by row.
-use native.Mathlib.Nat.{zero-add, sub-zero}
 use native.Mathlib.Omega.{arith}
-use Rattle.model.specs.Notices.{count_in, rows_of}
-use Rattle.model.proofs.Areas.{standing_fits}
-use Rattle.notices.proofs.Finding.{find_here, find_on, find_end}
+use Rattle.model.specs.Notices.{count_in}
+use Rattle.notices.proofs.Finding.{find_start, find_here, find_on, find_end}
 use Rattle.notices.proofs.row_of.Goals as goal
 
 pub loop-k-init : goal.loop-k-init
-unfolding rows_of
 loop-k-init c =
-    (omega arith, standing_fits c.requires.0 c.args.notices.now c.requires.1, rw (zero-add, sub-zero))
+    find_start c.args.notices.now c.args.number
 
 pub returns-then-notices-k : goal.returns-then-notices-k
 returns-then-notices-k c =
     let a = c.args in
-    find_here a.notices.now _ c.loop-k.k a.number c.loop-k-test.true c.loop-k.invariant.2 c.if-notices-k.true
+    find_here a.notices.now _ c.loop-k.k a.number c.loop-k-test.true c.loop-k.invariant c.if-notices-k.true
 
 pub loop-k-preserved : goal.loop-k-preserved
 loop-k-preserved c =
     let a = c.args in
-    (omega arith, c.loop-k.invariant.1, find_on a.notices.now _ c.loop-k.k a.number c.loop-k-test.true c.loop-k.invariant.2 c.if-notices-k.false)
+    find_on a.notices.now _ c.loop-k.k a.number c.loop-k-test.true c.loop-k.invariant c.if-notices-k.false
 
 pub returns : goal.returns
 returns c =
     let a = c.args in
-    find_end a.notices.now (count_in a.notices.now) c.loop-k.k a.number (omega arith) c.loop-k.invariant.2
+    find_end a.notices.now (count_in a.notices.now) c.loop-k.k a.number (omega arith) c.loop-k.invariant

@@ -5,15 +5,11 @@ use native.Mathlib.Omega.{arith}
 use borrow.Author.Tests.{le-ltb}
 use lib.ListN.{length}
 use Rattle.model.specs.Notices.{count_in, rows_of}
-use Rattle.model.proofs.Areas.{count_rows, standing_fits}
+use Rattle.model.proofs.Areas.{count_rows}
 use Rattle.model.proofs.Entering.{elsewhere_none}
 use Rattle.notices.specs.Numbered.{row_with}
 use Rattle.notices.proofs.Finding.{stands_row, elsewhere_row}
 use Rattle.notices.proofs.stands_elsewhere.Goals as goal
-
-pub bounds-notices-k : goal.bounds-notices-k
-bounds-notices-k c =
-    omega (arith, standing_fits c.requires.0 c.args.notices.now c.requires.1)
 
 pub returns-then-k-notices : goal.returns-then-k-notices
 unfolding rows_of

@@ -23,13 +23,12 @@ loop-i-preserved c =
     let i : ℕ = c.loop-i.i in
     let k : i < length ns = omega (arith, length_numbers a.bytes.now) in
     let e : c.number_at.result ≡ get_or ns i 0 = c.number_at.ensures ∙ sym (number_at_lem a.bytes.now i (omega arith)) in (
-      search rules,
-      simp length-set c.loop-i.invariant.1,
-      rw (c.loop-i.invariant.2, e) (over_turn ns a.area.now i k),
+      simp length-set c.loop-i.invariant.0,
+      rw (c.loop-i.invariant.1, e) (over_turn ns a.area.now i k),
     )
 
 pub returns : goal.returns
 returns c =
     let a = c.args in
-    c.loop-i.invariant.2
+    c.loop-i.invariant.1
     ∙ over_done (numbers_of a.bytes.now) a.area.now c.loop-i.i (omega (arith, length_numbers a.bytes.now))

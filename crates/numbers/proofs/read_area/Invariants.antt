@@ -8,8 +8,4 @@ use Rattle.numbers.proofs.read_area.Given as goal
 
 abbrev pub invariant-loop-i : goal.invariant-loop-i
 invariant-loop-i l =
-    (l.i ≤ l.n) × (length l.area ≡ length l.initial.area) × (l.area ≡ over (take l.i (numbers_of l.bytes)) l.initial.area)
-
-abbrev pub decreases-loop-i : goal.decreases-loop-i
-decreases-loop-i l =
-    l.n - l.i
+    (length l.area ≡ length l.initial.area) × (l.area ≡ over (take l.i (numbers_of l.bytes)) l.initial.area)

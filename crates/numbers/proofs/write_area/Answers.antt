@@ -6,16 +6,15 @@ use borrow.Author.Rules.{rules}
 use lib.ListN.{length-set}
 use Rattle.numbers.specs.Numbers.{over_bytes}
 use Rattle.numbers.proofs.Turns.{bytes_turn, bytes_done}
+use Rattle.std.proofs.Common.{◌≡◌, ◌%◌, ◌/◌}
+use lib.ListN.{get_or}
+use Rattle.numbers.specs.Numbers.{byte_size}
 use Rattle.numbers.proofs.write_area.Goals as goal
 
 pub loop-i-init : goal.loop-i-init
 unfolding over_bytes
 loop-i-init c =
     search rules
-
-pub overflow_cast-bytes-in-loop-i : goal.overflow_cast-bytes-in-loop-i
-overflow_cast-bytes-in-loop-i c =
-    omega (arith, c.shared_slice_known-in-loop-i-1.given c.loop-i.i)
 
 pub bounds-bytes-i-in-loop-i : goal.bounds-bytes-i-in-loop-i
 bounds-bytes-i-in-loop-i c =
@@ -24,12 +23,13 @@ bounds-bytes-i-in-loop-i c =
 pub loop-i-preserved : goal.loop-i-preserved
 loop-i-preserved c =
     let a = c.args in (
-      search rules,
-      simp length-set c.loop-i.invariant.1,
-      rw c.loop-i.invariant.2 (bytes_turn a.area.now a.bytes.now c.loop-i.i (omega arith) (omega arith)),
+      simp length-set c.loop-i.invariant.0,
+      let low : get_or c.to_le_bytes.result 0 0 ≡ get_or a.area.now c.loop-i.i 0 % byte_size = rw c.to_le_bytes.ensures in
+          let high : get_or c.to_le_bytes.result 1 0 ≡ get_or a.area.now c.loop-i.i 0 / byte_size = rw c.to_le_bytes.ensures (omega (arith, c.type_inv.area c.loop-i.i)) in
+          rw (c.loop-i.invariant.1, low, high) (bytes_turn a.area.now a.bytes.now c.loop-i.i (omega arith) (omega arith)),
     )
 
 pub returns : goal.returns
 returns c =
     let a = c.args in
-    c.loop-i.invariant.2 ∙ bytes_done a.area.now a.bytes.now c.loop-i.i (omega arith)
+    c.loop-i.invariant.1 ∙ bytes_done a.area.now a.bytes.now c.loop-i.i (omega arith)

@@ -8,8 +8,4 @@ use Rattle.numbers.proofs.write_area.Given as goal
 
 abbrev pub invariant-loop-i : goal.invariant-loop-i
 invariant-loop-i l =
-    (l.i ≤ l.n) × (length l.bytes ≡ length l.initial.bytes) × (l.bytes ≡ over_bytes (take l.i l.area) l.initial.bytes)
-
-abbrev pub decreases-loop-i : goal.decreases-loop-i
-decreases-loop-i l =
-    l.n - l.i
+    (length l.bytes ≡ length l.initial.bytes) × (l.bytes ≡ over_bytes (take l.i l.area) l.initial.bytes)

@@ -4,21 +4,19 @@ use mathlib.Core.Bool.{Bool, ◌&&◌, and-true}
 use native.Mathlib.Omega.{arith}
 use Rattle.rows.proofs.Zeros.{zero_on, zero_not, zero_end}
 use Rattle.rows.proofs.all_zero.Goals as goal
-use Rattle.rows.proofs.all_zero.Goals.{else-xs-i-ne0, then-xs-i-ne0}
+use Rattle.rows.proofs.all_zero.Goals.{else-x-ne0, then-x-ne0}
 
-pub loop-i-init : goal.loop-i-init
-loop-i-init c =
-    (omega arith, refl)
+pub loop-x-init : goal.loop-x-init
+loop-x-init c =
+    refl
 
-pub loop-i-preserved : goal.loop-i-preserved
-loop-i-preserved c =
-    let xs = c.args.xs.now in (
-      omega arith,
-      elim c.if-xs-i-ne0.branch [ then-xs-i-ne0 w ↦ zero_not c.loop-i.all c.if-xs-i-ne0.all xs c.loop-i.i c.loop-i-test.true c.loop-i.invariant.1 w.if-xs-i-ne0.true w.all-is | else-xs-i-ne0 w ↦ zero_on c.loop-i.all c.if-xs-i-ne0.all xs c.loop-i.i c.loop-i-test.true c.loop-i.invariant.1 w.if-xs-i-ne0.false w.all-is ],
-    )
+pub loop-x-preserved : goal.loop-x-preserved
+loop-x-preserved c =
+    let xs = c.args.xs.now in
+    elim c.if-x-ne0.branch [ then-x-ne0 w ↦ zero_not c.loop-x.all c.if-x-ne0.all xs c.loop-x.x-index c.loop-x-test.true c.loop-x.invariant w.if-x-ne0.true w.all-is | else-x-ne0 w ↦ zero_on c.loop-x.all c.if-x-ne0.all xs c.loop-x.x-index c.loop-x-test.true c.loop-x.invariant w.if-x-ne0.false w.all-is ]
 
 pub returns : goal.returns
 returns c =
     let xs = c.args.xs.now in
-    let all = c.loop-i.all in
-    sym (and-true all) ∙ ap (λ (b : Bool). all && b) (sym (zero_end xs c.loop-i.i (omega arith))) ∙ c.loop-i.invariant.1
+    let all = c.loop-x.all in
+    sym (and-true all) ∙ ap (λ (b : Bool). all && b) (sym (zero_end xs c.loop-x.x-index (omega arith))) ∙ c.loop-x.invariant

@@ -7,10 +7,6 @@ use Rattle.model.specs.Drawn.{same}
 use Rattle.rows.specs.Rows.{all_zero}
 use Rattle.rows.proofs.all_zero.Given as goal
 
-abbrev pub invariant-loop-i : goal.invariant-loop-i
-invariant-loop-i l =
-    (l.i ≤ length l.xs) × (l.all && same (drop l.i l.xs) (drop l.i (replicate (length l.xs) 0)) ≡ all_zero l.xs)
-
-abbrev pub decreases-loop-i : goal.decreases-loop-i
-decreases-loop-i l =
-    length l.xs - l.i
+abbrev pub invariant-loop-x : goal.invariant-loop-x
+invariant-loop-x l =
+    l.all && same (drop l.x-index l.xs) (drop l.x-index (replicate (length l.xs) 0)) ≡ all_zero l.xs

@@ -9,7 +9,3 @@ use Rattle.rows.proofs.first_used.Given as goal
 abbrev pub invariant-loop-k : goal.invariant-loop-k
 invariant-loop-k l =
     (l.k ≤ room) × (to_check unused_after l.notices room l.k 0 ≡ unused_verdict l.notices)
-
-abbrev pub decreases-loop-k : goal.decreases-loop-k
-decreases-loop-k l =
-    room - l.k

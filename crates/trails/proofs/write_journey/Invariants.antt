@@ -1,4 +1,5 @@
--- `trails::write_journey` meets its contract. Assumes nothing.
+-- `trails::write_journey` meets its contract. The loop's invariant: what is left to write, with what is written, is the whole journey.
+-- Assumes nothing.
 use mathlib.Core.Path.{◌≡◌}
 use mathlib.Core.List.{reverse_aux}
 use Prim.Native.Nat.{◌≤◌}
@@ -9,12 +10,7 @@ use Rattle.trails.proofs.write_journey.Given as goal
 
 abbrev pub invariant-loop-i : goal.invariant-loop-i
 invariant-loop-i l =
-    (l.i ≤ length l.journey)
-    × (length l.journey ≡ length l.initial.journey)
+    (l.k ≤ length l.journey)
     × Trail l.predecessors l.c
     × (length (follow l.predecessors l.i l.c) ≡ l.i)
     × (reverse_aux (follow l.predecessors l.i l.c) (drop l.i l.journey) ≡ reverse_aux (follow l.predecessors l.k l.last) (drop l.k l.initial.journey))
-
-abbrev pub decreases-loop-i : goal.decreases-loop-i
-decreases-loop-i l =
-    l.i

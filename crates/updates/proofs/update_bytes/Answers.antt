@@ -1,14 +1,19 @@
--- `updates::update_bytes` meets its contract: the arrays lent fit the fronts. Assumes nothing.
-use native.Mathlib.Omega.{arith}
+-- `updates::update_bytes` meets its contract. Assumes nothing.
+use Rattle.std.proofs.Common.{rules}
+use Rattle.model.specs.Day.{day_of}
+use Rattle.updates.proofs.Updated.{write_room, accepted_written, refused_unwritten}
 use Rattle.updates.proofs.update_bytes.Goals as goal
 
-pub update_fronts-requires : goal.update_fronts-requires
-update_fronts-requires c =
-    record {
-      first_fits = omega (arith, c.front_length-k.ensures);
-      second_fits = omega (arith, c.front_length-m.ensures);
-    }
+pub write_back-requires : goal.write_back-requires
+write_back-requires c =
+    write_room c.update_numbers.auto.notices c.update_numbers.auto.graph (day_of _) _ c.in-Ok.ensures
 
-pub returns : goal.returns
-returns c =
-    c.update_fronts.ensures
+pub returns-in-Ok : goal.returns-in-Ok
+returns-in-Ok c =
+    accepted_written c.update_numbers.auto.notices c.update_numbers.auto.graph (day_of _) _ c.read_both-n.ensures (search rules) (search rules)
+    c.in-Ok.ensures c.write_back.ensures
+
+pub returns-in-Err : goal.returns-in-Err
+returns-in-Err c =
+    refused_unwritten c.update_numbers.auto.notices c.update_numbers.auto.graph (day_of _) _ c.read_both-n.ensures (search rules) (search rules)
+    c.in-Err.ensures

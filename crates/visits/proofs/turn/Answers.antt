@@ -5,7 +5,7 @@ use Rattle.visits.proofs.turn.Goals as goal
 
 pub visit-requires : goal.visit-requires
 visit-requires c =
-    (c.requires.readable.0, c.requires.readable.1 c.if-d-lt-NONE.true, c.requires.work_len)
+    (c.requires.known c.if-d-lt-NONE.true, c.requires.work_len)
 
 pub returns-then-d-lt-NONE : goal.returns-then-d-lt-NONE
 returns-then-d-lt-NONE c =

@@ -1,0 +1,2 @@
+pub mod RefusalNumber
+pub mod Answers
