@@ -10,6 +10,11 @@ ghost use Rattle.timetable.specs.Check.{max_stops, header_verdict, stop_verdict,
 use refusals::{Reason, Refusal};
 use timetable::{Counts, Fields, Timetable};
 
+// The length of the longest file that is accepted.
+pub const LONGEST_FILE: usize = timetable::HEADER_LENGTH
+    + 2 * timetable::MAX_STOPS
+    + timetable::CONNECTION_LENGTH * timetable::MAX_CONNECTIONS;
+
 // Whether a file with a header starts with the letters TTG.
 fn is_marked(file: &[u8]) -> bool
     requires { header_length ≤ length file.now }
@@ -67,9 +72,14 @@ fn body_verdict(file: &[u8]) -> Result<(), Refusal>
     ensures { verdict_of result ≡ body_verdict file.now }
 {
     let stops = timetable::stops(file) as usize;
-    let fields = Fields { file, stops };
+    let connections = timetable::connections(file) as usize;
+    let fields = Fields {
+        file,
+        stops,
+        connections,
+    };
     stops_verdict(fields, stops)?;
-    connections::connections_verdict(fields, timetable::connections(file) as usize)
+    connections::connections_verdict(fields)
 }
 
 // Refusals 1 to 11.

@@ -1,13 +1,5 @@
 -- How long the line of an arrival is, and a journey's text connection by connection. Assumes nothing.
-use mathlib.Core.Path.{◌≡◌, sym, ap}
-use mathlib.Core.List.{List, [], ◌∷◌, ◌++◌, append-nil, append_assoc}
-use Prim.Native.Nat.{ℕ, zero, suc, ◌+◌, ◌*◌, ◌<◌, ◌≤◌}
-use native.Mathlib.Numerals.{add-one}
-use native.Mathlib.Omega.{arith}
-use lib.ListN.{length, get_or, take, length-append}
-use lib.Seq.{take-suc}
-use mir.Syntax.{w16}
-use mir.Val.{Fits}
+use Rattle.std.proofs.Common.{◌≡◌, ℕ, zero, suc, ◌+◌, ◌*◌, ◌<◌, ◌≤◌, List, [], ◌∷◌, ◌++◌, length, get_or, take, sym, ap, append_assoc, append-nil, add-one, arith, length-append, take-suc, w16, Fits}
 use Rattle.decimals.specs.Bytes.{space}
 use Rattle.labels.specs.Labels.{labelled}
 use Rattle.arrivals.specs.Arrivals.{journey_text, arrives_line}

@@ -1,7 +1,5 @@
 -- What readers ask of an accepted timetable and of a graph area whose times stand. Assumes nothing.
-use mathlib.Core.List.{List}
-use Prim.Native.Nat.{ℕ, ◌+◌, ◌<◌, ◌≤◌}
-use native.Mathlib.Omega.{arith}
+use Rattle.std.proofs.Common.{ℕ, ◌+◌, ◌<◌, ◌≤◌, List, arith}
 use Rattle.timetable.specs.File.{connections, to}
 use Rattle.timetable.specs.Accepted.{Opened}
 use Rattle.timetable.specs.Check.{max_transfer_time}

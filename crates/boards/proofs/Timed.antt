@@ -1,10 +1,5 @@
 -- An area at whose front the expected times stand: what it shows is the network of the notices. Assumes nothing.
-use mathlib.Core.Path.{◌≡◌, sym, ◌∙◌, ap}
-use mathlib.Core.List.{List}
-use Prim.Native.Nat.{ℕ, ◌+◌, ◌*◌, ◌<◌, ◌≤◌}
-use native.Mathlib.Omega.{arith}
-use lib.ListN.{length, get_or, take}
-use lib.Seq.{get_or-take}
+use Rattle.std.proofs.Common.{◌≡◌, ℕ, ◌+◌, ◌*◌, ◌<◌, ◌≤◌, List, length, get_or, take, sym, ap, ◌∙◌, arith, get_or-take}
 use Rattle.timetable.specs.File.{connections}
 use Rattle.timetable.specs.Accepted.{Opened}
 use Rattle.model.specs.Day.{day_of, lent}
@@ -20,7 +15,7 @@ use Rattle.model.proofs.Shown.{graph_shown, sound_shown}
 use Rattle.boards.specs.Timed.{Timed}
 
 -- an area at whose front the expected times stand
-module _ (f notices g : List ℕ) (s n : ℕ) (o : Opened f s n) (k : Standing (connections f) notices)
+module _ (f notices g : List ℕ) (s n : ℕ) (o : Opened f s n) {C : ℕ} (k : Standing C notices)
     (front : take (2 * n) g ≡ times (network_of (day_of f) (rows_of notices)) n) where
   abbrev net : Network
   net = network_of (day_of f) (rows_of notices)

@@ -13,7 +13,7 @@ ghost use Rattle.boards.specs.Timed.{board_in, ready_in};
 use timetable::Timetable;
 
 // The board on which the departure of connection c is listed: that of its stop.
-pub fn board(timetable: Timetable, c: usize) -> u16
+pub fn departure_board(timetable: Timetable, c: usize) -> u16
     requires { c < timetable.connections }
     ensures value { result ≡ board_in timetable.entry.file.now c }
     ensures below { result < timetable.entry.stops }
@@ -30,6 +30,7 @@ pub struct Shown<'a> {
     ghost room: { graph_length timetable.file.now ≤ length graph.now },
 }
 
+// The readers of entries, for what is shown: each tells a bound besides, or asks for less.
 impl Shown<'_> {
     // The board on which the departure of connection c is listed.
     pub fn board(self, c: usize) -> u16
@@ -37,7 +38,7 @@ impl Shown<'_> {
         ensures value { result ≡ board_in self.entry.timetable.file.now c }
         ensures below { result < self.entry.timetable.stops }
     {
-        board(self.timetable, c)
+        departure_board(self.timetable, c)
     }
 
     // The expected departure of connection c.

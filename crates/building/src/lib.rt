@@ -7,7 +7,9 @@ ghost use Rattle.model.specs.Day.{day_of, lent};
 ghost use Rattle.model.specs.Parts.{room_verdict};
 ghost use Rattle.model.specs.Operations.{outcome, written, built};
 
+use model::Lent;
 use refusals::Refusal;
+use times::Outlook;
 use timetable::{Counts, Timetable};
 
 // No notice stands, and the graph says so.
@@ -17,7 +19,7 @@ fn clear_all(timetable: Timetable, notices: &mut [u16], graph: &mut [u16])
         ≡ written (day_of timetable.entry.file.now) (lent notices.old graph.old) [] }
 {
     notices::clear_rows(notices);
-    drawing::fill_graph(timetable, notices, graph);
+    drawing::fill_graph(Outlook { timetable, notices }, graph);
 }
 
 // An empty notice area and the graph without notices.
@@ -26,7 +28,7 @@ pub fn build(file: &[u8], notices: &mut [u16], graph: &mut [u16]) -> Result<Coun
         ≡ built (day_of file.now) (lent notices.old graph.old) }
 {
     let timetable = acceptance::open(file)?;
-    checks::room_verdict(timetable, notices, graph)?;
+    checks::room_verdict(timetable, Lent { notices, graph })?;
     clear_all(timetable, notices, graph);
     Ok(Counts {
         stops: timetable.stops as u16,

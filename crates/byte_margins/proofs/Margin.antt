@@ -1,8 +1,5 @@
 -- A margin on the fronts is the one on the whole areas of bytes. Assumes nothing.
-use mathlib.Core.Path.{◌≡◌, sym, ◌∙◌, ap}
-use mathlib.Core.List.{List}
-use Prim.Native.Nat.{ℕ}
-use native.Mathlib.Omega.{arith}
+use Rattle.std.proofs.Common.{◌≡◌, ℕ, List, sym, ap, ◌∙◌, arith}
 use Rattle.numbers.specs.Numbers.{numbers_of}
 use Rattle.model.specs.Notices.{notices_length}
 use Rattle.model.specs.Day.{Day, Areas, lent}

@@ -1,11 +1,6 @@
 -- What an enquiry with room for each connection leaves of its two areas of numbers. Assumes nothing.
-use mathlib.Core.Path.{◌≡◌, refl, sym, ap, ◌∙◌}
-use mathlib.Core.Bool.{Bool, true, false}
-use mathlib.Core.List.{List, ◌++◌, reverse}
-use Prim.Native.Nat.{ℕ, ◌+◌, ◌-◌, ◌≤◌}
-use native.Mathlib.Omega.{arith}
-use lib.ListN.{length, drop, length-append, length-reverse, length-drop}
-use lib.Seq.{drop_at, drop-drop}
+use Rattle.std.proofs.Common.{◌≡◌, ℕ, ◌+◌, ◌-◌, ◌≤◌, Bool, true, false, List, ◌++◌, reverse, length, drop, sym, refl, ap, ◌∙◌, arith, length-append, length-drop, drop-drop, drop_at}
+use lib.ListN.{length-reverse}
 use Rattle.timetable.specs.File.{connections}
 use Rattle.refusals.specs.Answers.{Verdict, Passed, Refused}
 use Rattle.model.specs.Network.{Network}

@@ -1,10 +1,5 @@
 -- One area of bytes in a run: what a call writes over it, and what stays. Assumes nothing.
-use mathlib.Core.Path.{◌≡◌, refl, sym, ap, ◌∙◌}
-use mathlib.Core.List.{List, ◌++◌}
-use Prim.Native.Nat.{ℕ, ◌*◌, ◌≤◌}
-use native.Mathlib.Omega.{arith}
-use lib.ListN.{length, take, drop, length-append, length-take, length-drop, take-append-drop}
-use lib.Seq.{drop_at, take_at, take_all}
+use Rattle.std.proofs.Common.{◌≡◌, ℕ, ◌*◌, ◌≤◌, List, ◌++◌, length, take, drop, sym, refl, ap, ◌∙◌, arith, length-append, length-drop, take-append-drop, length-take, take_all, take_at, drop_at}
 use Rattle.numbers.specs.Numbers.{numbers_of, over_bytes}
 use Rattle.numbers.proofs.Areas.{Bytes, length_numbers, length_over_bytes, read_written, over_take, changed_written, drop_over_bytes}
 use Rattle.byte_runs.specs.Runs.{Past}

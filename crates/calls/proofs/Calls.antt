@@ -1,7 +1,5 @@
 -- What the code of a call relies on. Assumes nothing.
-use mathlib.Core.Path.{◌≡◌}
-use mathlib.Core.List.{List}
-use Prim.Native.Nat.{ℕ}
+use Rattle.std.proofs.Common.{◌≡◌, ℕ, List}
 use Rattle.refusals.specs.Answers.{Passed}
 use Rattle.model.specs.Notices.{WellFormed}
 use Rattle.model.specs.declared.Notice.{Notice}

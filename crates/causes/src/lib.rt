@@ -1,14 +1,15 @@
 // Why a connection is late: its primary delay and the notice that gives it.
 #![tactic(auto)]
 
-ghost use Rattle.std.specs.Prelude.{◌≡◌, ℕ, ◌<◌};
+ghost use Rattle.std.specs.Prelude.{◌≡◌, ◌<◌};
 ghost use Rattle.refusals.specs.Answers.{told, verdict_of};
 ghost use Rattle.timetable.specs.Check.{max_connections};
-ghost use Rattle.model.specs.Notices.{rows_of, Standing};
+ghost use Rattle.model.specs.Notices.{rows_of};
 ghost use Rattle.model.specs.Operations.{why_verdict, explained};
 ghost use Rattle.model.specs.Times.{primary_delay};
 
 use model::PrimaryDelay;
+use notices::Counted;
 use refusals::{Reason, Refusal};
 
 // Refusals 21, 23 and 13.
@@ -26,12 +27,13 @@ fn why_verdict(notices: &[u16], connections: usize, connection: u16) -> Result<(
 }
 
 // The primary delay of connection c by the notices that stand.
-fn primary_delay(notices: &[u16], c: usize) -> PrimaryDelay
-    requires { ((C : ℕ) × Standing C notices.now) × (c < max_connections) }
-    ensures { result ≡ primary_delay c (rows_of notices.now) }
+fn primary_delay(counted: Counted, c: usize) -> PrimaryDelay
+    requires { c < max_connections }
+    ensures { result ≡ primary_delay c (rows_of counted.entry.notices.now) }
 {
+    // no heap: room for the most connections
     let mut primaries = [0u32; timetable::MAX_CONNECTIONS];
-    delays::standing_delays(notices, &mut primaries);
+    delays::standing_delays(counted, &mut primaries);
     delays::primary_in(primaries[c])
 }
 
@@ -41,5 +43,5 @@ pub fn why(file: &[u8], notices: &[u16], connection: u16) -> Result<PrimaryDelay
 {
     let timetable = acceptance::open(file)?;
     why_verdict(notices, timetable.connections, connection)?;
-    Ok(primary_delay(notices, connection as usize))
+    Ok(primary_delay(Counted { notices }, connection as usize))
 }

@@ -1,9 +1,5 @@
 -- A transfer entry is the network's just where it fits the marks and lasts of right links. Assumes nothing.
-use mathlib.Core.Path.{◌≡◌, ◌∙◌, sym}
-use mathlib.Core.Logic.{⊎_elim}
-use mathlib.Core.List.{List}
-use Prim.Native.Nat.{ℕ, zero, suc, ◌+◌, ◌*◌, ◌<◌, ◌≤◌}
-use native.Mathlib.Omega.{arith}
+use Rattle.std.proofs.Common.{◌≡◌, ℕ, zero, suc, ◌+◌, ◌*◌, ◌<◌, ◌≤◌, List, sym, ◌∙◌, ⊎_elim, arith}
 use Rattle.model.specs.Least.{none, key}
 use Rattle.model.specs.Network.{Network, Sound, last_expected}
 use Rattle.model.specs.Graph.{board, ready, waiting, transfer, first_departure}

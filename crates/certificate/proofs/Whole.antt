@@ -1,8 +1,6 @@
 -- The steps of the whole check: what each asks and tells of lists that are right. Assumes nothing.
-use mathlib.Core.List.{List}
-use Prim.Native.Nat.{ℕ, ◌<◌, ◌≤◌}
-use native.Mathlib.Omega.{arith}
-use lib.ListN.{replicate, take, length-replicate, get_or-replicate}
+use Rattle.std.proofs.Common.{ℕ, ◌<◌, ◌≤◌, List, take, replicate, arith}
+use lib.ListN.{length-replicate, get_or-replicate}
 use Rattle.std.proofs.lemmas.List.{take-replicate}
 use Rattle.timetable.specs.Check.{max_stops, max_connections}
 use Rattle.timetable.specs.File.{stops, connections}

@@ -1,11 +1,6 @@
 -- Transfer times written and read again are themselves: each line of the text is a decimal, and its number the one written.
 -- Assumes nothing.
-use mathlib.Core.Path.{◌≡◌, refl, ◌∙◌}
-use mathlib.Core.List.{List, [], ◌∷◌, append_assoc}
-use Prim.Native.Nat.{ℕ, suc, ◌*◌, ◌≤◌}
-use native.Mathlib.Omega.{arith}
-use lib.ListN.{length, get_or}
-use Rattle.std.proofs.Common.{Ok}
+use Rattle.std.proofs.Common.{◌≡◌, ℕ, suc, ◌*◌, ◌≤◌, List, [], ◌∷◌, length, get_or, Ok, refl, ◌∙◌, append_assoc, arith}
 use Rattle.numbers.specs.Numbers.{numbers_of}
 use Rattle.timetable.specs.File.{stops}
 use Rattle.timetable.specs.Accepted.{Timetable}

@@ -1,38 +1,28 @@
 // The transfer times of stops as a text: one decimal a line, the place being the stop.
 #![tactic(auto)]
 
-ghost use Rattle.std.specs.Prelude.{◌*◌, ◌<◌, ◌≤◌, length};
+ghost use Rattle.std.specs.Prelude.{◌*◌, ◌≤◌, length};
 ghost use Rattle.labels.specs.Room.{LineIs};
-ghost use Rattle.change_lists.specs.ChangeText.{LineRead, ChangesRead, changes_text};
+ghost use Rattle.change_lists.specs.ChangeText.{ChangesRead, changes_text};
 
 use timetable::Timetable;
 
-// The line that starts at a place of a text: its number and where the next line starts, if it is a decimal that a newline ends.
-#[tactic(auto, using(crate::proofs::Lines::lines))]
-fn next_line(text: &[u8], at: usize) -> Option<(u16, usize)>
-    requires { at < length text.now }
-    ensures { LineRead result text.now at }
-{
-    let end = cuts::end_of(text, at, gtfs::NEWLINE);
-    if text.len() <= end {
-        return None;
-    }
-    Some((decimals::read_number(&text[at..end])?, end + 1))
-}
-
 // The numbers of a text, one decimal a line, at the front of an area of bytes: how many bytes, or the first line, from 1 on, that is no
 // decimal.
+#[tactic(auto, using(crate::proofs::Lines::lines))]
 pub fn read_changes(text: &[u8], change: &mut [u8]) -> Result<usize, usize>
     requires { length text.now ≤ length change.old }
     ensures { ChangesRead result change.new change.old text.now }
 {
     let mut line = 0;
     let mut at = 0;
-    while at < text.len() {
-        let (n, next) = next_line(text, at).ok_or(line + 1)?;
+    while let Some((n, next)) = cuts::column(text, at, gtfs::NEWLINE, decimals::read_number) {
         change[2 * line..2 * line + 2].copy_from_slice(&n.to_le_bytes());
         line += 1;
         at = next;
+    }
+    if at < text.len() {
+        return Err(line + 1);
     }
     Ok(2 * line)
 }

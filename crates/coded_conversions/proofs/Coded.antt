@@ -1,7 +1,5 @@
 -- A conversion whose answer is told as a number. Assumes nothing.
-use mathlib.Core.Path.{◌≡◌, ◌∙◌, ap}
-use mathlib.Core.List.{List}
-use Prim.Native.Nat.{ℕ}
+use Rattle.std.proofs.Common.{◌≡◌, ℕ, List, ap, ◌∙◌}
 use Rattle.refusals.specs.Answers.{Answer}
 use Rattle.gtfs.specs.Conversions.{Conversion, conversion}
 use Rattle.coded_conversions.specs.Coded.{coded_bytes, ConversionCoded}

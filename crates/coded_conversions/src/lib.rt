@@ -26,6 +26,7 @@ fn code_converted(converted: Converted) -> u64
 }
 
 // The timetable file of stop_times.txt and of each stop's transfer time.
+#[tactic(auto, using(crate::proofs::Coded::conversion_coded))]
 pub fn import_coded(text: &[u8], change: &[u8], file: &mut [u8]) -> u64
     ensures { ConversionCoded (imported text.now change.now file.old) result file.new }
 {
@@ -33,6 +34,7 @@ pub fn import_coded(text: &[u8], change: &[u8], file: &mut [u8]) -> u64
 }
 
 // stop_times.txt of a timetable file.
+#[tactic(auto, using(crate::proofs::Coded::conversion_coded))]
 pub fn export_coded(file: &[u8], text: &mut [u8]) -> u64
     ensures { ConversionCoded (exported file.now text.old) result text.new }
 {

@@ -26,16 +26,10 @@ pub fn update_numbers(
     ensures { UpdatedNumbers (day_of file.now) (lent notices.old graph.old) update
         result (lent notices.new graph.new) }
 {
+    // Each case has its own operation and arguments: a closure for each would be no plainer.
     match update {
         Update::Build => code_apart(graph::build(file, notices, graph)),
-        Update::Post(n) => code_apart(graph::post(
-            file,
-            notices,
-            graph,
-            n.number,
-            n.connection,
-            n.delay,
-        )),
+        Update::Post(notice) => code_apart(graph::post(file, notices, graph, notice)),
         Update::Withdraw(number) => code_apart(graph::withdraw(file, notices, graph, number)),
     }
 }

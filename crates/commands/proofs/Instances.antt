@@ -1,12 +1,10 @@
 -- Lines read, byte by byte. Assumes nothing.
-use mathlib.Core.Path.{◌≡◌, refl}
-use mathlib.Core.List.{[], ◌∷◌, map}
-use lib.ListN.{replicate}
-use Rattle.std.proofs.Common.{Some, None}
+use Rattle.std.proofs.Common.{◌≡◌, [], ◌∷◌, map, replicate, Some, None, refl}
 use Rattle.decimals.specs.Decimal.{all_digits, value_after, decimal}
 use Rattle.cuts.specs.Cut.{pieces}
 use Rattle.model.specs.Drawn.{same}
-use Rattle.meanings.specs.Meanings.{asked}
+use Rattle.model.specs.Notices.{notice}
+use Rattle.meanings.specs.Meanings.{request, change, asked}
 use Rattle.meanings.specs.declared.Command.TheVariants.{Post, Withdraw, Enquire, Margin}
 use Rattle.commands.specs.Commands.{meant, command_of}
 
@@ -18,7 +16,7 @@ pub lines_read : map command_of
     (113 ∷ 32 ∷ 48 ∷ 32 ∷ 50 ∷ 32 ∷ 53 ∷ 57 ∷ 53 ∷ 10 ∷ []) ∷
     (109 ∷ 32 ∷ 48 ∷ 32 ∷ 52 ∷ 10 ∷ []) ∷
     [])
-    ≡ Some (Post 7 1 10) ∷ Some (Withdraw 65535) ∷ Some (Withdraw 7) ∷ Some (Enquire 0 2 595) ∷ Some (Margin 0 4) ∷ []
+    ≡ Some (Post (notice 7 1 10)) ∷ Some (Withdraw 65535) ∷ Some (Withdraw 7) ∷ Some (Enquire (request 0 2 595)) ∷ Some (Margin (change 0 4)) ∷ []
 unfolding command_of meant asked same pieces decimal all_digits value_after
 lines_read = refl
 

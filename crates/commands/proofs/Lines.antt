@@ -1,11 +1,6 @@
 -- Whether a newline ends a line, in the words of the library. Assumes nothing.
-use mathlib.Core.Path.{◌≡◌, refl}
+use Rattle.std.proofs.Common.{◌≡◌, ℕ, suc, ◌-◌, List, [], ◌∷◌, length, drop, refl, arith, drop_of_length-le, drop-cons}
 use mathlib.Core.Bool.{and-true}
-use mathlib.Core.List.{List, [], ◌∷◌}
-use Prim.Native.Nat.{ℕ, suc, ◌-◌}
-use native.Mathlib.Omega.{arith}
-use lib.ListN.{length, drop, drop_of_length-le}
-use lib.Seq.{drop-cons}
 use Rattle.std.specs.Str.{bytes_eq}
 use Rattle.decimals.specs.Bytes.{newline}
 use Rattle.commands.specs.Commands.{ended}

@@ -1,12 +1,7 @@
 -- The words of a text, one after the other, and the numbers that they are. Assumes nothing.
-use mathlib.Core.Path.{◌≡◌, refl, ap, ◌∙◌}
-use mathlib.Core.Bool.{Bool, true, false, cond}
-use mathlib.Core.List.{List, [], ◌∷◌, ◌++◌, map, foldl}
-use Prim.Native.Nat.{ℕ}
-use native.Mathlib.Omega.{arith}
-use lib.ListN.{length}
+use Rattle.std.proofs.Common.{◌≡◌, ℕ, Bool, true, false, cond, List, [], ◌∷◌, ◌++◌, map, length, ◌==◌, Some, None, MatchBool, Option, option_and_then, refl, ap, ◌∙◌, arith, Bor}
+use mathlib.Core.List.{foldl}
 use denote.Param.Members.{Mut}
-use Rattle.std.proofs.Common.{Option, Some, None, option_and_then, ◌==◌, MatchBool, Bor}
 use Rattle.std.proofs.lemmas.Fn.{always_returns_same}
 use Rattle.std.proofs.lemmas.Grind.{common_steps}
 use Rattle.std.proofs.lemmas.List.Splits.{slice_split_none, slice_split_at}

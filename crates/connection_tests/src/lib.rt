@@ -2,14 +2,13 @@
 #![tactic(auto)]
 
 ghost use Rattle.std.specs.Prelude.{◌≡◌, ◌-◌, ◌<◌};
-ghost use Rattle.timetable.specs.Room.{HoldsConnection};
 ghost use Rattle.timetable.specs.Check.{wrong_stops, wrong_trip, wrong_times, breaks_off, wrong_join};
 
 use timetable::Fields;
 
-// 8: from and to differ and are stops.
+// Whether connection c starts or ends at no stop, or ends where it starts (refusal 8).
 pub fn wrong_stops(fields: Fields, c: usize) -> bool
-    requires { HoldsConnection fields.file.now fields.stops c }
+    requires { c < fields.connections }
     ensures { result ≡ wrong_stops fields.entry.file.now c }
 {
     let start = fields.from(c);
@@ -24,9 +23,9 @@ pub fn wrong_stops(fields: Fields, c: usize) -> bool
     start == end
 }
 
-// 9: trip 0 first, then the trip of the connection before or one more.
+// Whether the trip of connection c is neither that of the connection before it nor one more; of the first, whether it is not 0 (refusal 9).
 pub fn wrong_trip(fields: Fields, c: usize) -> bool
-    requires { HoldsConnection fields.file.now fields.stops c }
+    requires { c < fields.connections }
     ensures { result ≡ wrong_trip fields.entry.file.now c }
 {
     let own = fields.trip(c);
@@ -40,9 +39,9 @@ pub fn wrong_trip(fields: Fields, c: usize) -> bool
     1 < own - before
 }
 
-// 10: departure before arrival, arrival within the timetable.
+// Whether connection c does not arrive after it departs, or arrives after the timetable's end (refusal 10).
 pub fn wrong_times(fields: Fields, c: usize) -> bool
-    requires { HoldsConnection fields.file.now fields.stops c }
+    requires { c < fields.connections }
     ensures { result ≡ wrong_times fields.entry.file.now c }
 {
     let departure = fields.scheduled_departure(c);
@@ -55,7 +54,7 @@ pub fn wrong_times(fields: Fields, c: usize) -> bool
 
 // Whether connection c starts elsewhere or earlier than the one before it arrives.
 fn breaks_off(fields: Fields, c: usize) -> bool
-    requires { HoldsConnection fields.file.now fields.stops c × (0 < c) }
+    requires { (0 < c) × (c < fields.connections) }
     ensures { result ≡ breaks_off fields.entry.file.now (c - 1) c }
 {
     if fields.from(c) != fields.to(c - 1) {
@@ -64,9 +63,9 @@ fn breaks_off(fields: Fields, c: usize) -> bool
     fields.scheduled_departure(c) < fields.scheduled_arrival(c - 1)
 }
 
-// 11: within a trip, a connection starts where and not before the one before it arrives.
+// Whether connection c is of the same trip as the one before it and starts elsewhere or earlier than that arrives (refusal 11).
 pub fn wrong_join(fields: Fields, c: usize) -> bool
-    requires { HoldsConnection fields.file.now fields.stops c }
+    requires { c < fields.connections }
     ensures { result ≡ wrong_join fields.entry.file.now c }
 {
     if fields.stays_aboard(c) {

@@ -1,18 +1,17 @@
 // The connections of a timetable file, each one tested alone and against the one before it: refusals 8 to 11.
 #![tactic(auto)]
 
-ghost use Rattle.std.specs.Prelude.{◌≡◌, ◌<◌};
-ghost use Rattle.refusals.specs.Answers.{is_passed, first_below, verdict_of, Passed};
-ghost use Rattle.timetable.specs.Room.{HoldsConnection, HoldsConnections};
+ghost use Rattle.std.specs.Prelude.{◌≡◌, ◌<◌, ◌≤◌};
+ghost use Rattle.refusals.specs.Answers.{is_passed, first_below, verdict_of};
 ghost use Rattle.timetable.specs.Check.{max_connections, connection_verdict};
-ghost use Rattle.successions.specs.Next.{HasNext};
+ghost use Rattle.successions.specs.Next.{ComesAfter};
 
 use refusals::{Reason, Refusal};
 use timetable::Fields;
 
 // Refusals 8 to 11 at connection c.
 fn connection_verdict(fields: Fields, c: usize) -> Result<(), Refusal>
-    requires { HoldsConnection fields.file.now fields.stops c × (c < max_connections) }
+    requires { (c < fields.connections) × (c < max_connections) }
     ensures { verdict_of result ≡ connection_verdict fields.entry.file.now c }
 {
     if connection_tests::wrong_stops(fields, c) {
@@ -32,7 +31,7 @@ fn connection_verdict(fields: Fields, c: usize) -> Result<(), Refusal>
 
 // Whether connection c, which is not the first, passes.
 fn connection_passes(fields: Fields, c: usize) -> bool
-    requires { HasNext fields.file.now fields.stops c }
+    requires { ComesAfter fields.file.now c × (c < fields.connections) }
     ensures { result ≡ is_passed (connection_verdict fields.entry.file.now c) }
 {
     if connection_tests::wrong_stops(fields, c) {
@@ -44,12 +43,18 @@ fn connection_passes(fields: Fields, c: usize) -> bool
     successions::follows(fields, c)
 }
 
-// Whether the first n connections pass, where connection 0 does.
-fn later_pass(fields: Fields, n: usize) -> bool
-    requires { HoldsConnections fields.file.now fields.stops n × (connection_verdict fields.file.now 0 ≡ Passed) }
-    ensures { result ≡ is_passed (first_below (connection_verdict fields.entry.file.now) n) }
+// Whether all connections pass.
+fn connections_pass(fields: Fields) -> bool
+    requires { fields.connections ≤ max_connections }
+    ensures { result ≡ is_passed (first_below (connection_verdict fields.entry.file.now) fields.entry.connections) }
 {
-    for c in 1..n {
+    if fields.connections == 0 {
+        return true;
+    }
+    if connection_verdict(fields, 0).is_err() {
+        return false;
+    }
+    for c in 1..fields.connections {
         if !connection_passes(fields, c) {
             return false;
         }
@@ -57,38 +62,17 @@ fn later_pass(fields: Fields, n: usize) -> bool
     true
 }
 
-// Whether the first n connections pass.
-fn connections_pass(fields: Fields, n: usize) -> bool
-    requires { HoldsConnections fields.file.now fields.stops n }
-    ensures { result ≡ is_passed (first_below (connection_verdict fields.entry.file.now) n) }
+// Refusals 8 to 11 at the connections, one after the other. The place is looked for only where not all pass.
+pub fn connections_verdict(fields: Fields) -> Result<(), Refusal>
+    requires { fields.connections ≤ max_connections }
+    ensures { verdict_of result
+        ≡ first_below (connection_verdict fields.entry.file.now) fields.entry.connections }
 {
-    if n == 0 {
-        return true;
+    if connections_pass(fields) {
+        return Ok(());
     }
-    if connection_verdict(fields, 0).is_err() {
-        return false;
-    }
-    later_pass(fields, n)
-}
-
-// Refusals 8 to 11 at the first n connections, one after the other.
-fn find_refusal(fields: Fields, n: usize) -> Result<(), Refusal>
-    requires { HoldsConnections fields.file.now fields.stops n }
-    ensures { verdict_of result ≡ first_below (connection_verdict fields.entry.file.now) n }
-{
-    for c in 0..n {
+    for c in 0..fields.connections {
         connection_verdict(fields, c)?;
     }
     Ok(())
-}
-
-// Refusals 8 to 11 at the first n connections. The place is looked for only where not all pass.
-pub fn connections_verdict(fields: Fields, n: usize) -> Result<(), Refusal>
-    requires { HoldsConnections fields.file.now fields.stops n }
-    ensures { verdict_of result ≡ first_below (connection_verdict fields.entry.file.now) n }
-{
-    if connections_pass(fields, n) {
-        return Ok(());
-    }
-    find_refusal(fields, n)
 }

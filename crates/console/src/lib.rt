@@ -12,10 +12,7 @@ use std::io::{Eprint, Print, Read};
 use std::rt::Files;
 
 // Room for the file: one byte more than the longest timetable has.
-const FILE_ROOM: usize = timetable::HEADER_LENGTH
-    + 2 * timetable::MAX_STOPS
-    + timetable::CONNECTION_LENGTH * timetable::MAX_CONNECTIONS
-    + 1;
+const FILE_ROOM: usize = acceptance::LONGEST_FILE + 1;
 
 // Room for a block of the input.
 const BLOCK_ROOM: usize = 65536;
@@ -40,6 +37,8 @@ fn work_lines(
     // Where the bytes of the block that are not worked yet start and end.
     let mut at = 0;
     let mut end = 0;
+    // The input decides when the loop ends, so it has no bound of its own: a `loop` would need one, and an endless loop a `Wait`, which allows it
+    // never to end. It is counted instead; `Ok(false)` after it stands for a count that no input reaches.
     for _ in 0..u64::MAX {
         let done = dialogue::work_block(file, notices, graph, work, journey, out, &block[at..end]);
         streams::print(rt, &out[..done.size])?;
@@ -75,9 +74,16 @@ fn begin(
 ) -> Result<bool, Failed>
     requires { line_room ≤ length out.old }
 {
-    let begun = ends::begin(file, notices, graph, out);
-    streams::print(rt, &out[..begun.size])?;
-    Ok(begun.accepted)
+    match ends::begin(file, notices, graph, out) {
+        Ok(size) => {
+            streams::print(rt, &out[..size])?;
+            Ok(true)
+        }
+        Err(size) => {
+            streams::print(rt, &out[..size])?;
+            Ok(false)
+        }
+    }
 }
 
 // Answers standard input.
@@ -90,6 +96,7 @@ fn work_input(
 ) -> Result<(), Failed>
     requires { line_room ≤ length out.old }
 {
+    // The desk has no heap; each array is lent by itself, so that a struct of them would be no plainer.
     let mut work = [0u16; timetable::MAX_CONNECTIONS];
     let mut journey = [0u16; timetable::MAX_CONNECTIONS];
     let mut block = [0u8; BLOCK_ROOM];
@@ -112,6 +119,7 @@ fn work_input(
 
 // The desk with a file.
 fn work(rt: &(impl io::Input + Print + Eprint), file: &[u8]) -> Result<(), Failed> {
+    // The desk has no heap; each array is lent by itself, so that a struct of them would be no plainer.
     let mut notices = [0u16; model::NOTICES_LENGTH];
     let mut graph = [0u16; model::MOST_GRAPH];
     let mut out = [0u8; OUT_ROOM];
@@ -123,6 +131,7 @@ fn work(rt: &(impl io::Input + Print + Eprint), file: &[u8]) -> Result<(), Faile
 
 // The whole desk. It stops where something fails, which is told by then.
 pub fn run(rt: &(impl Files + io::Input + Print + Eprint)) {
+    // The desk has no heap.
     let mut file = [0u8; FILE_ROOM];
     let n = streams::load(rt, &mut file);
     let _ = work(rt, &file[..n]);

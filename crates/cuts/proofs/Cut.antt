@@ -1,17 +1,9 @@
 -- Laws of texts cut at a byte, of their pieces and of how they start. Assumes nothing.
-use mathlib.Core.Path.{◌≡◌, refl, sym, ap, ◌∙◌}
-use mathlib.Core.Logic.{⊎_elim}
-use mathlib.Core.Bool.{true, false, ◌||◌, and-false, or-true, or_assoc}
-use mathlib.Core.List.{List, [], ◌∷◌, ◌++◌}
-use Prim.Native.Nat.{ℕ, zero, suc, ◌<◌, ◌≤◌}
-use native.Mathlib.Omega.{arith}
-use borrow.Author.Tests.{lt-ltb, eq-eqb, eqb-true}
-use lib.Dec.{ltb, eqb, leb-suc-suc}
-use lib.ListN.{length, get_or, take, drop}
-use lib.Seq.{drop-cons}
+use Rattle.std.proofs.Common.{◌≡◌, ℕ, zero, suc, ◌<◌, ◌≤◌, true, false, ◌||◌, eqb, ltb, List, [], ◌∷◌, ◌++◌, length, get_or, take, drop, Some, None, sym, refl, ap, ◌∙◌, ⊎_elim, arith, drop-cons, lt-ltb, eq-eqb, eqb-true}
+use mathlib.Core.Bool.{and-false, or-true, or_assoc}
+use lib.Dec.{leb-suc-suc}
 use Rattle.decimals.specs.Bytes.{newline}
 use Rattle.decimals.specs.Decimal.{is_digit, all_digits, decimal}
-use Rattle.std.proofs.Common.{Some, None}
 use Rattle.cuts.specs.Cut.{has, before, after, starts_with, on_first, pieces, lines_of}
 use Rattle.timetable.proofs.Tests.{by_bool, and_left, and_right, not_both, both_fail}
 

@@ -1,3 +1,4 @@
 pub mod Cut
 pub mod Places
 pub mod Pieces
+pub mod Columns

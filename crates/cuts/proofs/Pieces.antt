@@ -1,12 +1,5 @@
 -- A piece of a text, from a place to where it ends: at a byte, or with the text. Assumes nothing.
-use mathlib.Core.Path.{◌≡◌, sym, ◌∙◌}
-use mathlib.Core.Bool.{true, false}
-use mathlib.Core.List.{List}
-use Prim.Native.Nat.{ℕ, suc, ◌+◌, ◌-◌, ◌<◌, ◌≤◌}
-use native.Mathlib.Omega.{arith}
-use borrow.Author.Tests.{lt-ltb, le-ltb}
-use lib.ListN.{length, take, drop, length-drop}
-use lib.Seq.{drop-drop}
+use Rattle.std.proofs.Common.{◌≡◌, ℕ, suc, ◌+◌, ◌-◌, ◌<◌, ◌≤◌, true, false, List, length, take, drop, sym, ◌∙◌, arith, length-drop, drop-drop, le-ltb, lt-ltb}
 use Rattle.cuts.specs.Cut.{has, before, after}
 use Rattle.cuts.proofs.Cut.{before_take, after_drop, before_within, has_end}
 

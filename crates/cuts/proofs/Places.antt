@@ -1,14 +1,8 @@
 -- Where the piece of a text ends, and whether a text starts with another, in the words of the library. Assumes nothing.
-use mathlib.Core.Path.{◌≡◌, refl}
-use mathlib.Core.List.{List, [], ◌∷◌}
-use Prim.Native.Nat.{ℕ, suc, ◌+◌, ◌<◌, ◌≤◌}
-use native.Mathlib.Numerals.{add-one}
-use borrow.Author.Tests.{eq-eqb, ne_eqb}
-use lib.Dec.{eqb}
-use lib.ListN.{length, get_or, drop, drop_of_length-le}
-use lib.Seq.{drop-cons}
+use Rattle.std.proofs.Common.{◌≡◌, ℕ, suc, ◌+◌, ◌<◌, ◌≤◌, eqb, List, [], ◌∷◌, length, get_or, drop, refl, add-one, drop_of_length-le, drop-cons, eq-eqb, ne_eqb}
 use Rattle.std.specs.List as list
 use Rattle.cuts.specs.Cut.{before, starts_with}
+use Rattle.cuts.proofs.Pieces.{piece_last}
 
 module _ (byte : ℕ) (text : List ℕ) (i : ℕ) where
   -- the piece ends at the byte
@@ -28,7 +22,7 @@ module _ (byte : ℕ) (text : List ℕ) (i : ℕ) where
   piece_ends h = rw (drop_of_length-le text {i = i} h)
 
 -- what the search of a piece's end goes by
-pub ruleset places = (piece_stops, piece_goes_on, piece_ends)
+pub ruleset places = (piece_stops, piece_goes_on, piece_ends, piece_last)
 
 -- whether a text starts with another is what the library tests
 pub starts_same : (s t : List ℕ) → list.starts_with eqb t s ≡ starts_with s t

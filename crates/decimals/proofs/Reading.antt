@@ -1,16 +1,6 @@
 -- How a word is read as a number, digit by digit. Assumes nothing.
-use mathlib.Core.Path.{◌≡◌}
-use mathlib.Core.Bool.{false, true, cond, ◌&&◌}
-use mathlib.Core.List.{List}
-use Prim.Native.Nat.{ℕ, ◌+◌, ◌*◌, ◌-◌, ◌^◌, ◌<◌, ◌≤◌}
-use native.Mathlib.Nat.{pow-suc}
-use native.Mathlib.Numerals.{add-one}
-use native.Mathlib.Omega.{arith}
-use borrow.Author.Tests.{le-leb, lt-leb}
-use lib.Dec.{leb}
-use lib.ListN.{length, get_or, drop, drop_of_length-le}
-use lib.Seq.{drop-cons}
-use Rattle.std.proofs.Common.{Option, Some, None}
+use Rattle.std.proofs.Common.{◌≡◌, ℕ, ◌+◌, ◌-◌, ◌*◌, ◌^◌, ◌<◌, ◌≤◌, true, false, cond, ◌&&◌, leb, List, length, get_or, drop, Some, None, Option, pow-suc, add-one, arith, drop_of_length-le, drop-cons, le-leb}
+use borrow.Author.Tests.{lt-leb}
 use Rattle.decimals.specs.Bytes.{digit_zero}
 use Rattle.decimals.specs.Decimal.{max_digits, max_number, is_digit, all_digits, value_after, decimal}
 

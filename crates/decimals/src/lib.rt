@@ -8,7 +8,7 @@ ghost use Rattle.decimals.specs.Written.{Written};
 // How many digits a word may have: `max_digits`.
 const MAX_DIGITS: usize = 5;
 
-// A word as a number, where it is one.
+// A word as a number, where it is one. Not by `parse`: it takes a leading + and any number of zeros.
 #[tactic(auto, using(crate::proofs::Reading::reading))]
 pub fn read_number(word: &[u8]) -> Option<u16>
     ensures { result ≡ decimal word.now }
@@ -26,8 +26,8 @@ pub fn read_number(word: &[u8]) -> Option<u16>
     u16::try_from(value).ok()
 }
 
-// A number in decimal into out from a place on; the place after it. Digit by digit: a write into a slice by the library can fail, and
-// tells no place.
+// A number in decimal into out from a place on; the place after it. Digit by digit: a write into a slice by the library can fail and tells
+// no place, and `itoa` writes from the last digit to the first, so that the digits would be counted before or copied after.
 #[tactic(auto, using(crate::proofs::Written::writing))]
 pub fn put_decimal(number: u32, out: &mut [u8], at: usize) -> usize
     requires { at + length (decimal_of number) ≤ length out.old }

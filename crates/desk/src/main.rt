@@ -1,4 +1,4 @@
-// The desk program, run on the example.
+// The desk program, run on the example: a program has a main of its own, which passes on.
 #![tactic(auto)]
 
 fn main(rt: HostRuntime) {

@@ -1,11 +1,6 @@
 -- The desk goes on from block to block as if it had the whole input at once. Assumes nothing.
-use mathlib.Core.Path.{◌≡◌, sym, ap, ◌∙◌}
-use mathlib.Core.Bool.{true}
-use mathlib.Core.List.{List, [], ◌++◌, map, map-append, append-nil, append_assoc}
-use Prim.Native.Nat.{ℕ, ◌<◌}
-use lib.ListN.{length, take, drop, take-append-drop}
-use lib.Seq.{take_at}
-use Rattle.std.proofs.Common.{Option}
+use Rattle.std.proofs.Common.{◌≡◌, ℕ, ◌<◌, true, List, [], ◌++◌, map, length, take, drop, Option, sym, ap, ◌∙◌, append_assoc, append-nil, take-append-drop, take_at}
+use mathlib.Core.List.{map-append}
 use Rattle.model.specs.Day.{Day}
 use Rattle.commands.specs.Commands.{command_of}
 use Rattle.meanings.specs.declared.Command.{Command}

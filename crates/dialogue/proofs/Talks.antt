@@ -1,11 +1,7 @@
 -- A dialogue line by line: answers after one another in one area. Assumes nothing.
-use mathlib.Core.Path.{◌≡◌, refl, sym, ap, ◌∙◌}
-use mathlib.Core.List.{List, [], ◌∷◌, ◌++◌, map, map-append, append-nil, append_assoc}
-use Prim.Native.Nat.{ℕ, ◌+◌, ◌-◌, ◌<◌, ◌≤◌}
-use native.Mathlib.Omega.{arith}
-use lib.ListN.{length, take, drop, drop_of_length-le, length-append, length-take, length-drop}
-use lib.Seq.{take_all, take_at, drop-append-add, drop-drop}
-use Rattle.std.proofs.Common.{Option}
+use Rattle.std.proofs.Common.{◌≡◌, ℕ, ◌+◌, ◌-◌, ◌<◌, ◌≤◌, List, [], ◌∷◌, ◌++◌, map, length, take, drop, Option, sym, refl, ap, ◌∙◌, append_assoc, append-nil, arith, length-append, length-drop, drop_of_length-le, length-take, take_all, drop-drop, take_at}
+use mathlib.Core.List.{map-append}
+use lib.Seq.{drop-append-add}
 use Rattle.model.specs.Day.{Day}
 use Rattle.commands.specs.Commands.{command_of}
 use Rattle.meanings.specs.declared.Command.{Command}
@@ -16,15 +12,21 @@ use Rattle.labels.specs.Room.{LineIs}
 use Rattle.turns.specs.Turns.{State, Turn, turn_of}
 use Rattle.turns.specs.Worked.{Worked}
 use Rattle.dialogue.specs.Talks.{talked, talk}
-use Rattle.dialogue.specs.Inner.{Added}
 use Rattle.dialogue.specs.Worked.{Talked}
 
+-- a turn worked: its line stands in out from a place on, the rest of out is as before, the answer is the place after it
+record Added (answer at : ℕ) (out out₀ : List ℕ) (after : State) (t : Turn) : Type 0 where
+  pub next : answer ≡ at + length (text_of t.line)
+  pub stands : out ≡ take at out₀ ++ (text_of t.line ++ drop answer out₀)
+  pub within : answer ≤ length out
+  pub left : after ≡ t.after
+
 -- an area from a place on
-pub rest_part : (out : List ℕ) (at : ℕ) → take (length out - at) (drop at out) ≡ drop at out
+rest_part : (out : List ℕ) (at : ℕ) → take (length out - at) (drop at out) ≡ drop at out
 rest_part out at = take_all (length out - at) (drop at out) (simp length-drop (omega arith))
 
 -- a line worked in an area from a place on
-pub worked_added : {n at : ℕ} {part out₀ : List ℕ} {after : State} {t : Turn} → at ≤ length out₀
+worked_added : {n at : ℕ} {part out₀ : List ℕ} {after : State} {t : Turn} → at ≤ length out₀
     → Worked n part (take (length out₀ - at) (drop at out₀)) after t
     → Added (at + n) at (take at out₀ ++ (part ++ drop (length out₀ - at) (drop at out₀))) out₀ after t
 worked_added {n} {at} {part} {out₀} {after} {t} h w =
@@ -96,10 +98,11 @@ module _ {day : Day} {s₀ s : State} {block : List ℕ} {at size : ℕ} {out ou
       ap (map command_of) (lines_turn block at end found more before.whole)
       ∙ map-append command_of (input_lines (take at block)) (take (end - at) (drop at block) ∷ [])
 
-  pub talked_turn : {size' : ℕ} {out' : List ℕ} {s' : State}
-      → Added size' size out' out s' (turn_of day s (command_of (take (end - at) (drop at block))))
-      → Talked day s₀ s' block end size' out' out₀
-  talked_turn {size'} {out'} {s'} added =
+  pub talked_turn : {n : ℕ} {part : List ℕ} {s' : State}
+      → Worked n part (take (length out - size) (drop size out)) s' (turn_of day s (command_of (take (end - at) (drop at block))))
+      → Talked day s₀ s' block end (size + n) (take size out ++ (part ++ drop (length out - size) (drop size out))) out₀
+  talked_turn worked =
+      let added = worked_added before.answers.within worked in
       let ks = commands_of (take at block) in
       let k = command_of (take (end - at) (drop at block)) in
       let a = before.answers in

@@ -1,4 +1,3 @@
 pub mod Talks
 pub mod Room
-pub mod Inner
 pub mod Worked

@@ -1,13 +1,10 @@
 // The dialogue of the desk: the lines of a block in, the lines of their answers out. No input and no output.
 #![tactic(auto)]
 
-ghost use Rattle.std.specs.Prelude.{◌≤◌, length, drop};
+ghost use Rattle.std.specs.Prelude.{◌≤◌, length};
 ghost use Rattle.timetable.specs.Check.{max_connections};
 ghost use Rattle.model.specs.Day.{day_of, lent};
-ghost use Rattle.commands.specs.Commands.{command_of};
-ghost use Rattle.written_replies.specs.Said.{OutRoom};
-ghost use Rattle.turns.specs.Turns.{state, turn_of};
-ghost use Rattle.dialogue.specs.Inner.{Added};
+ghost use Rattle.turns.specs.Turns.{state};
 ghost use Rattle.dialogue.specs.Worked.{Progressed};
 
 // Room for the longest answer, a journey's: `answer_room`.
@@ -21,28 +18,6 @@ pub struct Progress {
     pub at: usize,
     pub size: usize,
     pub full: bool,
-}
-
-// Works a line; its answer stands in out from `at` on. The place after it.
-fn answer(
-    file: &[u8],
-    notices: &mut [u16],
-    graph: &mut [u16],
-    work: &mut [u16],
-    journey: &mut [u16],
-    out: &mut [u8],
-    at: usize,
-    line: &[u8],
-) -> usize
-    requires { (at ≤ length out.old) × OutRoom journey.old (drop at out.old) }
-    ensures { Added result at out.new out.old
-        (state (lent notices.new graph.new) work.new journey.new)
-        (turn_of (day_of file.now)
-        (state (lent notices.old graph.old) work.old journey.old)
-        (command_of line.now)) }
-{
-    let n = turns::work_line(file, notices, graph, work, journey, &mut out[at..], line);
-    at + n
 }
 
 // Works the lines of a block that a newline ends, one after the other, as far as out has room for their answers, which stand at its
@@ -72,14 +47,13 @@ pub fn work_block(
                 full: true,
             };
         }
-        size = answer(
+        size += turns::work_line(
             file,
             notices,
             graph,
             work,
             journey,
-            out,
-            size,
+            &mut out[size..],
             &block[at..end],
         );
         at = end;

@@ -1,9 +1,5 @@
 -- The graph area put together from its parts. Assumes nothing.
-use mathlib.Core.Path.{◌≡◌, sym, ◌∙◌, ap}
-use mathlib.Core.List.{List, ◌++◌, append_assoc}
-use Prim.Native.Nat.{ℕ, ◌+◌, ◌*◌, ◌≤◌}
-use native.Mathlib.Omega.{arith}
-use lib.ListN.{length, drop}
+use Rattle.std.proofs.Common.{◌≡◌, ℕ, ◌+◌, ◌*◌, ◌≤◌, List, ◌++◌, length, drop, sym, ap, ◌∙◌, append_assoc, arith}
 use Rattle.timetable.specs.File.{stops, connections}
 use Rattle.timetable.specs.Accepted.{Opened}
 use Rattle.model.specs.Day.{day_of}
@@ -17,7 +13,7 @@ use Rattle.model.specs.Shown.{shown}
 use Rattle.model.proofs.Tab.{length_tab}
 use Rattle.model.proofs.GraphArea.{length_times}
 use Rattle.model.proofs.Shown.{times_in_lem}
-use Rattle.area_parts.specs.Area.{spliced}
+use Rattle.drawing.specs.Spliced.{spliced}
 use Rattle.drawing.proofs.Splice.{three, rest_is}
 
 module _ (f : List ℕ) (s n : ℕ) (o : Opened f s n) where
@@ -29,7 +25,7 @@ module _ (f : List ℕ) (s n : ℕ) (o : Opened f s n) where
   pub parts_drawn : (g : List ℕ) {g₁ g₂ g₃ waits transfers heads : List ℕ} → graph_length f ≤ length g
       → transfers ≡ tab (transfer (shown f g)) (connections f) → heads ≡ tab (first_departure (shown f g)) (stops f)
       → waits ≡ tab (waiting (shown f g)) (connections f)
-      → g₁ ≡ spliced g (3 * n) (4 * n) transfers → g₂ ≡ spliced g₁ (4 * n) (4 * n + length heads) heads → g₃ ≡ spliced g₂ (2 * n) (3 * n) waits
+      → g₁ ≡ spliced g (3 * n) (4 * n) transfers → g₂ ≡ spliced g₁ (4 * n) (4 * n + s) heads → g₃ ≡ spliced g₂ (2 * n) (3 * n) waits
       → g₃ ≡ graph_of (shown f g) ++ drop (graph_length f) g
   unfolding graph_of
   parts_drawn g {g₁} {g₂} {g₃} {waits} {transfers} {heads} room t h w p q r =
@@ -37,7 +33,7 @@ module _ (f : List ℕ) (s n : ℕ) (o : Opened f s n) where
       let lh : length heads ≡ s = rw (h, length_tab) (sym o.stops) in
       let lw : length waits ≡ n = rw (w, length_tab) (sym o.connections) in
       let long : 4 * n + length heads ≡ graph_length f = omega (arith, length_is) in
-      three g waits transfers heads (2 * n) (3 * n) (4 * n) (omega arith) (omega arith) (omega arith) p q r
+      three g waits transfers heads (2 * n) (3 * n) (4 * n) (omega arith) (omega arith) (omega arith) p (rw (← lh) at q) r
       ∙ rw (long, times_in_lem f g n (omega arith), w, t, h, o.connections) (simp append_assoc)
 
   -- over an area to whose front the times were put

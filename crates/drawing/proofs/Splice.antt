@@ -1,13 +1,9 @@
 -- Parts put into one list, one after the other. Assumes nothing.
-use mathlib.Core.Path.{◌≡◌, sym, ◌∙◌}
-use mathlib.Core.List.{List, ◌++◌, append_assoc}
-use Prim.Native.Nat.{ℕ, ◌+◌, ◌≤◌}
-use native.Mathlib.Omega.{arith}
+use Rattle.std.proofs.Common.{◌≡◌, ℕ, ◌+◌, ◌≤◌, List, ◌++◌, length, take, drop, sym, ◌∙◌, append_assoc, arith, length-append, length-take-le, take-take, take_at, drop_at}
 use borrow.Rule.Slice.PartMut.{Post-is}
-use lib.ListN.{length, take, drop, length-append}
-use lib.Seq.{take_at, drop_at, take-take, take-append-le, length-take-le}
-use Rattle.area_parts.specs.Area.{spliced}
-use Rattle.area_parts.proofs.Lent.{put_part}
+use lib.Seq.{take-append-le}
+use Rattle.drawing.specs.Spliced.{spliced}
+use Rattle.drawing.proofs.Lent.{put_part}
 
 -- p stands before n, and the rest is as it was in d
 splice_more : (d p xs ys : List ℕ) (n e : ℕ) → length p ≡ n → n ≤ e → xs ≡ p ++ drop n d → spliced xs n e ys ≡ p ++ ys ++ drop e d

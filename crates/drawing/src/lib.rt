@@ -1,61 +1,47 @@
 // The graph area, filled for a timetable and the notices that stand.
-#![tactic(auto)]
+#![tactic(auto, using(crate::proofs::Lent::put_part))]
 
 ghost use Rattle.std.specs.Prelude.{◌≡◌, ◌≤◌, length};
 ghost use Rattle.model.specs.Day.{day_of};
 ghost use Rattle.model.specs.Network.{Sound};
-ghost use Rattle.model.specs.Notices.{rows_of, Standing};
+ghost use Rattle.model.specs.Notices.{rows_of};
 ghost use Rattle.model.specs.Drawn.{graph_length, graph_with};
 ghost use Rattle.model.specs.Shown.{shown};
-ghost use Rattle.timetable.specs.File.{connections};
-ghost use Rattle.departures.specs.Events.{EventOrder};
-ghost use Rattle.transfers.specs.Transfers.{SweepRoom};
 ghost use Rattle.drawing.specs.Area.{with_lists};
 
 use boards::Shown;
+use times::Outlook;
 use timetable::Timetable;
 
-// The three parts behind the times, by which the events are ordered.
-fn put_parts(
-    timetable: Timetable,
-    order: &[u16],
-    heads: &mut [u16],
-    departed: &mut [u16],
-    graph: &mut [u16],
-)
-    requires ordered { (graph_length timetable.file.now ≤ length graph.old) × EventOrder (shown timetable.file.now graph.old) order.now }
-    requires sweep_room { SweepRoom timetable.stops timetable.connections heads.old departed.old }
-    ensures { graph.new ≡ with_lists timetable.entry.file.now graph.old }
-{
-    let k = area_parts::put_transfers(timetable, order, heads, departed, graph);
-    area_parts::put_first_departures(timetable.connections, heads, graph);
-    area_parts::put_waiting(timetable, &departed[..k], graph);
-}
-
-// The rest of the area whose times stand.
+// The three parts behind the times that stand. Memory is fixed, without a heap: what the sweeps need stands in arrays.
 fn put_lists(timetable: Timetable, graph: &mut [u16])
     requires { Sound (shown timetable.file.now graph.old) × (graph_length timetable.file.now ≤ length graph.old) }
     ensures { graph.new ≡ with_lists timetable.entry.file.now graph.old }
 {
-    let mut order = [model::NONE; departures::MAX_EVENTS];
-    let mut heads = [model::NONE; timetable::MAX_STOPS];
+    let mut order = [0u16; departures::MAX_EVENTS];
+    let mut heads = [0u16; timetable::MAX_STOPS];
     let mut departed = [0u16; departures::MAX_EVENTS];
+    let heads = &mut heads[..timetable.stops];
     departures::order_events(Shown { timetable, graph }, &mut order);
-    put_parts(
+    let n = timetable.connections;
+    let k = transfers::fill_transfers(
         timetable,
         &order,
-        &mut heads[0..timetable.stops],
+        heads,
         &mut departed,
-        graph,
+        &mut graph[3 * n..4 * n],
     );
+    graph[4 * n..4 * n + timetable.stops].copy_from_slice(heads);
+    lists::fill_waiting(timetable, &departed[..k], &mut graph[2 * n..3 * n]);
 }
 
 // The graph area of a timetable and the notices that stand.
-pub fn fill_graph(timetable: Timetable, notices: &[u16], graph: &mut [u16])
-    requires { Standing (connections timetable.file.now) notices.now × (graph_length timetable.file.now ≤ length graph.old) }
+pub fn fill_graph(outlook: Outlook, graph: &mut [u16])
+    requires { graph_length outlook.timetable.file.now ≤ length graph.old }
     ensures { graph.new
-        ≡ graph_with (day_of timetable.entry.file.now) (rows_of notices.now) graph.old }
+        ≡ graph_with (day_of outlook.entry.timetable.file.now) (rows_of outlook.entry.notices.now) graph.old }
 {
-    area_parts::put_times(timetable, notices, graph);
-    put_lists(timetable, graph);
+    let end = 2 * outlook.timetable.connections;
+    outlook.expected_times(&mut graph[..end]);
+    put_lists(outlook.timetable, graph);
 }

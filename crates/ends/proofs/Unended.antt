@@ -1,8 +1,5 @@
 -- A line that no newline ends is no command. Assumes nothing.
-use mathlib.Core.Path.{◌≡◌, refl}
-use mathlib.Core.Bool.{true}
-use mathlib.Core.List.{List}
-use Prim.Native.Nat.{ℕ}
+use Rattle.std.proofs.Common.{◌≡◌, ℕ, true, List, refl}
 use Rattle.model.specs.Day.{Day}
 use Rattle.commands.specs.Commands.{command_of}
 use Rattle.input.specs.Lines.{plain}

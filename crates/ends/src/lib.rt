@@ -13,23 +13,22 @@ ghost use Rattle.ends.specs.Built.{Built};
 
 use refusals::{Reason, Refusal};
 
-// The length of a building's line, which a refusal has too, and whether the timetable is accepted: a Result would hold the length twice.
-#[derive(Clone, Copy, Debug, PartialEq, Eq)]
-pub struct Begun {
-    pub size: usize,
-    pub accepted: bool,
-}
-
-// Builds; the answer's line stands at the front of out.
-pub fn begin(file: &[u8], notices: &mut [u16], graph: &mut [u16], out: &mut [u8]) -> Begun
+// Builds; the length of the answer's line, which stands at the front of out, an accepted timetable's apart from a refused one's.
+pub fn begin(
+    file: &[u8],
+    notices: &mut [u16],
+    graph: &mut [u16],
+    out: &mut [u8],
+) -> Result<usize, usize>
     requires { line_room ≤ length out.old }
     ensures { Built result out.new out.old (lent notices.new graph.new)
         (built (day_of file.now) (lent notices.old graph.old)) }
 {
     let built = graph::build(file, notices, graph);
-    Begun {
-        size: written_replies::write_built(built, out),
-        accepted: built.is_ok(),
+    let size = written_replies::write_built(built, out);
+    match built {
+        Ok(_) => Ok(size),
+        Err(_) => Err(size),
     }
 }
 

@@ -1,7 +1,5 @@
 -- A whole run with an enquiry after it. Assumes nothing.
-use mathlib.Core.Path.{◌≡◌, ap, sym, ◌∙◌}
-use mathlib.Core.List.{List}
-use Prim.Native.Nat.{ℕ}
+use Rattle.std.proofs.Common.{◌≡◌, ℕ, List, sym, ap, ◌∙◌}
 use Rattle.refusals.specs.Answers.{Answer, accepted}
 use Rattle.timetable.specs.declared.Counts.{Counts}
 use Rattle.model.specs.Day.{Day, Areas}

@@ -6,7 +6,7 @@ ghost use Rattle.model.specs.Day.{day_of, lent};
 ghost use Rattle.model.specs.Operations.{enquiry};
 ghost use Rattle.enquired_runs.specs.Enquiring.{Enquiring};
 
-use model::Arrival;
+use model::{Arrival, Lent, Request};
 use refusals::Refusal;
 use timetable::Counts;
 
@@ -27,18 +27,16 @@ pub fn run_and_enquire(
     answers: &mut [u16],
     work: &mut [u16],
     journey: &mut [u16],
-    from: u16,
-    to: u16,
-    time: u16,
+    request: Request,
 ) -> Told
     ensures { Enquiring (day_of file.now) (lent notices.old graph.old)
-        calls.now answers.old work.old journey.old from to time
+        calls.now answers.old work.old journey.old request.from request.to request.time
         (told result.building)
         (lent notices.new graph.new)
         answers.new
         (enquiry (told result.enquiry) work.new journey.new) }
 {
     let building = runs::run(file, notices, graph, calls, answers);
-    let enquiry = search::enquire(file, notices, graph, work, journey, from, to, time);
+    let enquiry = search::enquire(file, Lent { notices, graph }, work, journey, request);
     Told { building, enquiry }
 }

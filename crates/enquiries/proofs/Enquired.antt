@@ -1,13 +1,6 @@
 -- An enquiry on the fronts gives what it gives on the whole areas of bytes. Assumes nothing.
-use mathlib.Core.Path.{◌≡◌, refl, sym, ◌∙◌, ap, ap₂}
-use mathlib.Core.Bool.{Bool, true, false, true≢false}
-use mathlib.Core.List.{List, ◌++◌, reverse}
-use Prim.Native.Nat.{ℕ, ◌+◌, ◌-◌, ◌≤◌}
-use native.Mathlib.Omega.{arith}
-use borrow.Author.Tests.{ne_eqb}
-use lib.Dec.{eqb}
-use lib.ListN.{length, take, drop, length-append, length-drop, length-reverse}
-use lib.Seq.{drop_at}
+use Rattle.std.proofs.Common.{◌≡◌, ℕ, ◌+◌, ◌-◌, ◌≤◌, Bool, true, false, eqb, List, ◌++◌, reverse, length, take, drop, sym, refl, ap, ◌∙◌, ap₂, true≢false, arith, length-append, length-drop, drop_at, ne_eqb}
+use lib.ListN.{length-reverse}
 use Rattle.numbers.specs.Numbers.{numbers_of}
 use Rattle.numbers.proofs.Areas.{Bytes}
 use Rattle.refusals.specs.Answers.{Answer, refused, Verdict, Passed, Refused}

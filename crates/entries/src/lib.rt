@@ -1,4 +1,4 @@
-// Readers of the graph area's entries. What an entry says of an accepted area is in the model's proofs/Ready and Shown.
+// Readers of the graph area's entries, one for each by its name: where an entry lies is all that they are. What an entry says of an accepted area is in the model's proofs/Ready and Shown.
 #![tactic(auto)]
 
 ghost use Rattle.std.specs.Prelude.{◌≡◌, ◌+◌, ◌*◌, ◌<◌, length};

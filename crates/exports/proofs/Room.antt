@@ -1,15 +1,11 @@
 -- The rows of a connection have room where both together have it. Assumes nothing.
-use mathlib.Core.Path.{◌≡◌, sym, ap, ◌∙◌}
-use mathlib.Core.List.{List}
-use Prim.Native.Nat.{ℕ, ◌+◌, ◌<◌, ◌≤◌}
-use native.Mathlib.Omega.{arith}
-use lib.ListN.{length}
+use Rattle.std.proofs.Common.{◌≡◌, ℕ, ◌+◌, ◌<◌, ◌≤◌, List, length, sym, ap, ◌∙◌, arith}
 use Rattle.timetable.specs.File.{connections}
 use Rattle.timetable.specs.Accepted.{Opened}
 use Rattle.gtfs.specs.declared.StopTime.{StopTime}
 use Rattle.gtfs.specs.StopTimes.{row_text}
 use Rattle.gtfs.specs.Rows.{position, start_row, end_row}
-use Rattle.gtfs.proofs.Rows.{stay_text, begin_length, departs_within, leaves_within}
+use Rattle.gtfs.proofs.Rows.{stay_text, begin_length, start_short, end_short, departs_within, leaves_within}
 use Rattle.exports.specs.Room.{RowsFit}
 use Rattle.row_texts.specs.Room.{RowFits}
 
@@ -44,3 +40,6 @@ module _ {f : List ℕ} {s n c p at : ℕ} {text : List ℕ} (o : Opened f s n) 
   only_fits z e =
       let l = ap length (stay_text f c (λ (q : position f c ≡ 0). z (h.place ∙ q))) in
       end_fits e (omega (arith, h.room))
+
+-- what the length of a connection's rows goes by
+pub ruleset lengths = (stay_text, begin_length, start_short, end_short)

@@ -13,6 +13,7 @@ use refusals::{Reason, Refusal};
 use timetable::Timetable;
 
 // How long the rows of connection c are.
+#[tactic(auto, using(crate::proofs::Room::lengths))]
 fn rows_length(timetable: Timetable, c: usize, before: u16) -> usize
     requires { (c < timetable.connections) × (before ≡ position timetable.file.now c) }
     ensures { result ≡ length (rows_text (rows_at timetable.entry.file.now c)) }
@@ -25,10 +26,11 @@ fn rows_length(timetable: Timetable, c: usize, before: u16) -> usize
 }
 
 // How long the text of a timetable is.
+#[tactic(auto, using(gtfs::proofs::Rows::up_to_none, gtfs::proofs::Rows::length_next, file_rows::proofs::Positions::last_next))]
 fn text_length(timetable: Timetable) -> usize
     ensures { result ≡ length (text_of timetable.entry.file.now) }
 {
-    let mut size = gtfs::HEADER_TEXT_LENGTH;
+    let mut size = gtfs::HEADER_TEXT.len();
     let mut position = 0;
     for c in 0..timetable.connections {
         position = file_rows::next_position(timetable, c, position);
@@ -38,6 +40,7 @@ fn text_length(timetable: Timetable) -> usize
 }
 
 // The rows of connection c into text from a place on; the place after them.
+#[tactic(auto, using(gtfs::proofs::Rows::stay_text, crate::proofs::Room::only_fits))]
 fn put_rows(timetable: Timetable, c: usize, before: u16, text: &mut [u8], at: usize) -> usize
     requires { RowsFit timetable.file.now timetable.connections c before at text.old }
     ensures { Written result text.new text.old at (rows_text (rows_at timetable.entry.file.now c)) }
@@ -51,16 +54,13 @@ fn put_rows(timetable: Timetable, c: usize, before: u16, text: &mut [u8], at: us
 }
 
 // The text of a timetable at the front of an area.
+#[tactic(auto, using(gtfs::proofs::Rows::up_to_none, gtfs::proofs::Rows::length_all, gtfs::proofs::Rows::rows_within))]
 fn write_text(timetable: Timetable, text: &mut [u8])
     requires { length (text_of timetable.file.now) ≤ length text.old }
     ensures { text.new ≡ text_of timetable.entry.file.now
         ++ drop (length (text_of timetable.entry.file.now)) text.old }
 {
-    let mut at = labels::put_text(
-        b"trip_id,arrival_time,departure_time,stop_id,stop_sequence\n",
-        text,
-        0,
-    );
+    let mut at = labels::put_text(gtfs::HEADER_TEXT, text, 0);
     let mut position = 0;
     for c in 0..timetable.connections {
         position = file_rows::next_position(timetable, c, position);

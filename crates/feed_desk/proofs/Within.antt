@@ -1,10 +1,5 @@
 -- What a conversion gives lies in its output area. Assumes nothing.
-use mathlib.Core.Path.{◌≡◌}
-use mathlib.Core.List.{List}
-use Prim.Native.Nat.{ℕ, ◌≤◌}
-use native.Mathlib.Omega.{arith}
-use lib.ListN.{length, take, length-take}
-use Rattle.std.specs.Prelude.{Result, Ok}
+use Rattle.std.proofs.Common.{◌≡◌, ℕ, ◌≤◌, List, length, is_ok, Ok, Err, Result, MatchResult, arith, rules}
 use Rattle.refusals.specs.declared.Refusal.{Refusal}
 use Rattle.refusals.specs.Answers.{told}
 use Rattle.timetable.specs.Check.{file_verdict}
@@ -24,6 +19,8 @@ module _ (before : List ℕ) {after : List ℕ} {r : Result ℕ (Refusal ℕ)} {
   unfolding exported
   exported_within f e = omega (arith, converted_fits (file_verdict f) (text_of f) before e n is)
 
--- so the front of so many bytes is that long
-pub front_length : (n : ℕ) (bytes : List ℕ) → n ≤ length bytes → n ≡ length (take n bytes)
-front_length n bytes h = omega (arith, length-take n bytes)
+-- a value that `map_err` gives is the one it was given
+pub value_kept : {A E D : Type 0} (r : Result A E) (mapped : Result A D) (Q : E → Type 0) {x : A}
+    → MatchResult r (λ y. mapped ≡ Ok y) Q → is_ok mapped ≡ is_ok r → mapped ≡ Ok x → r ≡ Ok x
+value_kept (Ok y) mapped Q h v is = search rules
+value_kept (Err e) mapped Q h v is = search rules

@@ -1,14 +1,8 @@
 -- The first row alone in its trip. Assumes nothing.
-use mathlib.Core.Path.{◌≡◌, refl, sym, ◌∙◌, ap₂}
-use mathlib.Core.Logic.{◌↔◌, ⊎_elim}
-use mathlib.Core.Bool.{Bool, true, false, not, ◌&&◌, ◌||◌, or-false}
-use mathlib.Core.List.{List, [], ◌∷◌}
-use Prim.Native.Nat.{ℕ, zero, suc, ◌+◌, ◌<◌, ◌≤◌}
-use native.Mathlib.Nat.{add-zero}
-use native.Mathlib.Omega.{arith}
-use borrow.Author.Tests.{ltb-true, lt-ltb, eqb-true, eq-eqb, not-false}
-use lib.Dec.{ltb, leb-suc-suc}
-use lib.ListN.{length}
+use Rattle.std.proofs.Common.{◌≡◌, ℕ, zero, suc, ◌+◌, ◌<◌, ◌≤◌, Bool, true, false, not, ◌&&◌, ◌||◌, ltb, ◌↔◌, List, [], ◌∷◌, length, sym, refl, ◌∙◌, ap₂, ⊎_elim, add-zero, arith, ltb-true, lt-ltb, eq-eqb, eqb-true}
+use mathlib.Core.Bool.{or-false}
+use borrow.Author.Tests.{not-false}
+use lib.Dec.{leb-suc-suc}
 use Rattle.refusals.specs.Answers.{refuse_if, or_else, first_below, Verdict, Passed, Refused}
 use Rattle.timetable.proofs.Tests.{Faults, by_lt, by_eq, by_bool, not_both, or_cases, or_left, or_right, and_left, and_right, and_both}
 use Rattle.timetable.proofs.Order.{passed_not_refused, or_passed, else_assoc, Rule, rule, below_passed, below_refused}

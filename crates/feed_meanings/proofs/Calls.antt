@@ -1,11 +1,5 @@
 -- A call of import or export is refused exactly as it has to be. Assumes nothing.
-use mathlib.Core.Path.{◌≡◌}
-use mathlib.Core.Logic.{◌↔◌, inl, inr, ⊎_elim}
-use mathlib.Core.List.{List}
-use Prim.Native.Nat.{ℕ, ◌≤◌}
-use native.Mathlib.Omega.{arith}
-use lib.Dec.{ltb}
-use lib.ListN.{length}
+use Rattle.std.proofs.Common.{◌≡◌, ℕ, ◌≤◌, ltb, ◌↔◌, List, length, inl, inr, ⊎_elim, arith}
 use Rattle.refusals.specs.Answers.{refused, or_else, answering, Verdict, Passed, Refused}
 use Rattle.timetable.specs.Check.{file_verdict}
 use Rattle.timetable.proofs.Tests.{below}

@@ -1,11 +1,6 @@
 -- The fields of a file made of transfer times and connections. Assumes nothing.
-use mathlib.Core.Path.{◌≡◌, refl, ◌∙◌}
-use mathlib.Core.Bool.{true}
-use mathlib.Core.List.{List, [], ◌∷◌}
-use Prim.Native.Nat.{ℕ, zero, suc, ◌+◌, ◌*◌, ◌<◌}
-use native.Mathlib.Omega.{arith}
-use lib.ListN.{length, get_or, length-append, get_or-append}
-use lib.Seq.{get_or-append-add}
+use Rattle.std.proofs.Common.{◌≡◌, ℕ, zero, suc, ◌+◌, ◌*◌, ◌<◌, true, List, [], ◌∷◌, length, get_or, refl, ◌∙◌, arith, length-append, get_or-append-add}
+use lib.ListN.{get_or-append}
 use Rattle.timetable.specs.File.{file_length, marked, version, connections, transfer_time, field, trip, from, to, scheduled_departure, scheduled_arrival}
 use Rattle.timetable.specs.Check.{format_version}
 use Rattle.gtfs.specs.Feed.{Connection}

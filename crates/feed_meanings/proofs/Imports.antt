@@ -1,14 +1,6 @@
 -- An import is accepted, and refused with a number at a place, exactly as it has to be: 31, then 4, 5, 7, 8, 10 and 11 of its file, whose
 -- header, mark, version, length and trips are right by its making. Assumes nothing.
-use mathlib.Core.Path.{◌≡◌, refl, sym, ◌∙◌}
-use mathlib.Core.Logic.{◌↔◌, inl, inr, ⊎_elim}
-use mathlib.Core.Bool.{Bool, not, ◌&&◌}
-use mathlib.Core.List.{List}
-use Prim.Native.Nat.{ℕ, zero, suc, ◌<◌, ◌≤◌}
-use native.Mathlib.Omega.{arith}
-use borrow.Author.Tests.{leb-true, le-leb, eqb-true, eq-eqb}
-use lib.Dec.{leb, ltb}
-use lib.ListN.{length}
+use Rattle.std.proofs.Common.{◌≡◌, ℕ, zero, suc, ◌<◌, ◌≤◌, Bool, not, ◌&&◌, ltb, leb, ◌↔◌, List, length, sym, refl, ◌∙◌, inl, inr, ⊎_elim, arith, eq-eqb, eqb-true, le-leb, leb-true}
 use Rattle.refusals.specs.RefusalNumber as refusal
 use Rattle.numbers.specs.Numbers.{numbers_of}
 use Rattle.refusals.specs.Answers.{refuse_if, Passed, Refused}

@@ -1,10 +1,5 @@
 -- The text of a timetable is what an export has to give: the first line, then its rows as they are to be written. Assumes nothing.
-use mathlib.Core.Path.{◌≡◌, refl, ap}
-use mathlib.Core.Logic.{⊎_elim}
-use mathlib.Core.List.{List, [], ◌∷◌}
-use Prim.Native.Nat.{ℕ, ◌<◌, ◌≤◌}
-use native.Mathlib.Omega.{arith}
-use lib.ListN.{length, length-append}
+use Rattle.std.proofs.Common.{◌≡◌, ℕ, ◌<◌, ◌≤◌, List, [], ◌∷◌, length, refl, ap, ⊎_elim, arith, length-append}
 use Rattle.decimals.specs.Decimal.{decimal_of}
 use Rattle.decimals.proofs.Digits.{decimal_one, decimal_read, no_leading_zero}
 use Rattle.timetable.specs.Accepted.{Timetable}

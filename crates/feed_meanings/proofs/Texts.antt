@@ -1,15 +1,6 @@
 -- Texts of rows are accepted, and refused with 31 at a place, exactly as they have to be. Assumes nothing.
-use mathlib.Core.Path.{◌≡◌, refl, sym, ◌∙◌, ap}
-use mathlib.Core.Logic.{◌↔◌, ◌⊎◌, inl, inr, ⊎_elim}
-use mathlib.Core.Bool.{Bool, true, false, ◌&&◌}
-use mathlib.Core.List.{List, [], ◌∷◌, ◌++◌, append-nil}
-use Prim.Native.Nat.{ℕ, zero, suc, ◌+◌, ◌<◌}
-use native.Mathlib.Nat.{add-zero}
-use native.Mathlib.Omega.{arith}
-use borrow.Author.Tests.{ne_eqb}
-use lib.ListN.{length, length-append}
+use Rattle.std.proofs.Common.{◌≡◌, ℕ, zero, suc, ◌+◌, ◌<◌, Bool, true, false, ◌&&◌, ◌⊎◌, ◌↔◌, List, [], ◌∷◌, ◌++◌, length, is_some, Some, None, Option, sym, refl, ap, ◌∙◌, inl, inr, ⊎_elim, append-nil, add-zero, arith, length-append, ne_eqb}
 use lib.Seq.{drop-append_seam}
-use Rattle.std.proofs.Common.{Option, Some, None, is_some}
 use Rattle.decimals.specs.Bytes.{newline}
 use Rattle.refusals.specs.Answers.{Passed, Refused}
 use Rattle.timetable.proofs.Tests.{by_bool, not_both}

@@ -1,13 +1,7 @@
 -- The connections of rows that are right: trips from 0 with no gap, each connection of a trip from where the one before it goes.
 -- Assumes nothing.
-use mathlib.Core.Path.{◌≡◌, refl, sym}
-use mathlib.Core.Logic.{◌⊎◌, inl, inr, ⊎_elim}
-use mathlib.Core.Bool.{Bool, true, false, not, ◌||◌}
-use mathlib.Core.List.{List, [], ◌∷◌}
-use Prim.Native.Nat.{ℕ, zero, suc, ◌<◌}
-use native.Mathlib.Omega.{arith}
-use borrow.Author.Tests.{eqb-true, eqb-false}
-use lib.ListN.{length}
+use Rattle.std.proofs.Common.{◌≡◌, ℕ, zero, suc, ◌<◌, Bool, true, false, not, ◌||◌, ◌⊎◌, List, [], ◌∷◌, length, sym, refl, inl, inr, ⊎_elim, arith, eqb-true}
+use borrow.Author.Tests.{eqb-false}
 use Rattle.refusals.specs.Answers.{refuse_if, Passed}
 use Rattle.timetable.proofs.Tests.{by_bool, negated}
 use Rattle.timetable.proofs.Order.{passed_not_refused, else_passed, rule}

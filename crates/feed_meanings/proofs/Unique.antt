@@ -1,16 +1,6 @@
 -- What an export has to give is one text: numbers without leading zeros, times with hours of two digits, rows and lines of them are
 -- told by what they mean. Assumes nothing.
-use mathlib.Core.Path.{◌≡◌, refl, sym, ◌∙◌, ap}
-use mathlib.Core.Logic.{◌↔◌, ⊎_elim}
-use mathlib.Core.Bool.{true, false}
-use mathlib.Core.List.{List, [], ◌∷◌, ◌++◌}
-use Prim.Native.Nat.{ℕ, zero, suc, ◌+◌, ◌*◌, ◌-◌, ◌/◌, ◌%◌, ◌<◌, ◌≤◌}
-use native.Mathlib.Omega.{arith}
-use borrow.Author.Tests.{ltb-true}
-use lib.Dec.{ltb}
-use lib.ListN.{length, get_or, take}
-use lib.Seq.{take-suc, take_all, length-take-le, get_or-take, ext_get_or}
-use Rattle.std.proofs.Common.{None}
+use Rattle.std.proofs.Common.{◌≡◌, ℕ, zero, suc, ◌+◌, ◌-◌, ◌*◌, ◌/◌, ◌%◌, ◌<◌, ◌≤◌, true, false, ltb, ◌↔◌, List, [], ◌∷◌, ◌++◌, length, get_or, take, None, sym, refl, ap, ◌∙◌, ⊎_elim, arith, length-take-le, take_all, get_or-take, take-suc, ext_get_or, ltb-true}
 use Rattle.decimals.specs.Bytes.{newline, digit_zero}
 use Rattle.decimals.specs.Decimal.{value_after, value_of, decimal_of}
 use Rattle.decimals.proofs.Digits.{decimal_one, decimal_more, value_append}

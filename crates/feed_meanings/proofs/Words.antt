@@ -1,15 +1,5 @@
 -- Words are read exactly as they have to be: decimals, times, and rows of five columns. Assumes nothing.
-use mathlib.Core.Path.{◌≡◌, refl, sym, ◌∙◌, ap}
-use mathlib.Core.Logic.{◌↔◌, ⊎_elim}
-use mathlib.Core.Bool.{Bool, true, false, cond, ◌&&◌, ◌||◌}
-use mathlib.Core.List.{List, [], ◌∷◌, ◌++◌}
-use Prim.Native.Nat.{ℕ, zero, suc, ◌+◌, ◌*◌, ◌-◌, ◌<◌, ◌≤◌}
-use native.Mathlib.Omega.{arith}
-use borrow.Author.Tests.{leb-true, le-leb, eqb-true, eq-eqb}
-use lib.Dec.{leb, eqb}
-use lib.ListN.{length, get_or, take, drop, take-append-drop, length-append, length-take, length-drop}
-use lib.Seq.{take_at, drop_at}
-use Rattle.std.proofs.Common.{Some, None}
+use Rattle.std.proofs.Common.{◌≡◌, ℕ, zero, suc, ◌+◌, ◌-◌, ◌*◌, ◌<◌, ◌≤◌, Bool, true, false, cond, ◌&&◌, ◌||◌, eqb, leb, ◌↔◌, List, [], ◌∷◌, ◌++◌, length, get_or, take, drop, Some, None, sym, refl, ap, ◌∙◌, ⊎_elim, arith, length-append, length-drop, take-append-drop, length-take, take_at, drop_at, eq-eqb, eqb-true, le-leb, leb-true}
 use Rattle.decimals.specs.Bytes.{digit_zero, digit_nine}
 use Rattle.decimals.specs.Decimal.{is_digit, all_digits, value_of, decimal}
 use Rattle.timetable.proofs.Tests.{and_left, and_right, and_both, by_lt, or_cases, or_left, or_right}

@@ -1,18 +1,10 @@
 -- What is known after all rows of a text: the first row alone in its trip, how many connections the rows make, and these in the area.
 -- Assumes nothing.
-use mathlib.Core.Path.{◌≡◌, refl, sym, ap, ◌∙◌}
-use mathlib.Core.Logic.{⊎_elim}
-use mathlib.Core.Bool.{Bool, true, false, cond, not, or-true, or-false}
-use mathlib.Core.List.{List, [], ◌∷◌, ◌++◌, foldl}
-use Prim.Native.Nat.{ℕ, suc, ◌+◌, ◌*◌, ◌<◌, ◌≤◌}
-use native.Mathlib.Nat.{add-zero}
-use native.Mathlib.Numerals.{add-one}
-use native.Mathlib.Omega.{arith}
-use borrow.Author.Tests.{eq-eqb, ne_eqb, lt-ltb, eqb-true}
-use lib.Dec.{eqb, eqb-suc-suc}
-use lib.ListN.{length}
+use Rattle.std.proofs.Common.{◌≡◌, ℕ, suc, ◌+◌, ◌*◌, ◌<◌, ◌≤◌, Bool, true, false, cond, not, eqb, List, [], ◌∷◌, ◌++◌, length, Some, None, Option, sym, refl, ap, ◌∙◌, ⊎_elim, add-zero, add-one, arith, lt-ltb, eq-eqb, ne_eqb, eqb-true}
+use mathlib.Core.Bool.{or-true, or-false}
+use mathlib.Core.List.{foldl}
+use lib.Dec.{eqb-suc-suc}
 use lib.Seq.{sets}
-use Rattle.std.proofs.Common.{Option, Some, None}
 use Rattle.std.specs.Option.{option_or}
 use Rattle.numbers.specs.Numbers.{bytes_of}
 use Rattle.numbers.proofs.Bytes.{length_bytes, bytes_append}

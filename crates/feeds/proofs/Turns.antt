@@ -1,16 +1,8 @@
 -- The loop over the lines of a text: what holds before each line, what a turn leaves of it, and what it says at the end.
 -- Assumes nothing.
-use mathlib.Core.Path.{◌≡◌, refl, sym, ap, ◌∙◌}
-use mathlib.Core.Logic.{⊎_elim}
-use mathlib.Core.Bool.{true, false, ◌&&◌}
-use mathlib.Core.List.{List, ◌∷◌, foldl}
-use Prim.Native.Nat.{ℕ, suc, ◌+◌, ◌<◌, ◌≤◌}
-use native.Mathlib.Omega.{arith}
-use borrow.Author.Tests.{ne_eqb, ltb-true}
-use lib.Dec.{eqb, ltb}
-use lib.ListN.{length, drop, length-drop, length-append, drop_of_length-le}
+use Rattle.std.proofs.Common.{◌≡◌, ℕ, suc, ◌+◌, ◌<◌, ◌≤◌, true, false, ◌&&◌, eqb, ltb, List, ◌∷◌, length, drop, is_some, Some, None, Option, sym, refl, ap, ◌∙◌, ⊎_elim, arith, length-append, length-drop, drop_of_length-le, ltb-true, ne_eqb}
+use mathlib.Core.List.{foldl}
 use lib.Seq.{length-sets}
-use Rattle.std.proofs.Common.{Option, Some, None, is_some}
 use Rattle.std.proofs.lemmas.Option.{none-some, some_pair_parts}
 use Rattle.decimals.specs.Bytes.{newline}
 use Rattle.timetable.specs.Check.{max_connections}
@@ -24,7 +16,8 @@ use Rattle.gtfs.specs.declared.StopTime.{StopTime}
 use Rattle.gtfs.specs.StopTimes.{header_text, row_of, row_in}
 use Rattle.gtfs.specs.Feed.{may_follow, lines_verdict, rows_in, rows_of, body_of}
 use Rattle.gtfs.proofs.Lines.{first_judged, first_row}
-use Rattle.stop_times.specs.Columns.{with_next, line_at}
+use Rattle.cuts.specs.Columns.{with_next}
+use Rattle.stop_times.specs.Columns.{line_at}
 use Rattle.feeds.specs.declared.Progress.{Progress}
 use Rattle.feeds.specs.Progress.{advanced, connected}
 use Rattle.feeds.specs.Reading.{Taking, Taken, Reading, turned, area_after}

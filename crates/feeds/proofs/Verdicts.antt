@@ -1,15 +1,10 @@
 -- What the reading of a text's rows leaves, by how it ends: at its first line, at a row, with the text. Assumes nothing.
-use mathlib.Core.Path.{◌≡◌, sym, ap, ◌∙◌}
-use mathlib.Core.Bool.{true, false}
-use mathlib.Core.List.{List}
-use Prim.Native.Nat.{ℕ, suc, ◌+◌, ◌≤◌}
-use native.Mathlib.Numerals.{add-one}
-use native.Mathlib.Omega.{arith}
-use lib.ListN.{length}
-use Rattle.std.proofs.Common.{Ok, Err, Some, None}
+use Rattle.std.proofs.Common.{◌≡◌, ℕ, suc, ◌+◌, ◌≤◌, true, false, List, length, Some, None, Ok, Err, sym, ap, ◌∙◌, add-one, arith}
 use Rattle.refusals.specs.Answers.{Refused}
 use Rattle.cuts.specs.Cut.{starts_with, lines_of}
 use Rattle.refusals.specs.RefusalNumber as refusal
+use Rattle.refusals.specs.declared.Refusal.{Refusal}
+use Rattle.refusals.specs.declared.Reason.TheVariants as R
 use Rattle.gtfs.specs.StopTimes.{header_text}
 use Rattle.gtfs.specs.Feed.{lines_verdict, rows_of, body_of, text_verdict}
 use Rattle.gtfs.specs.Conversions.{text_connections}
@@ -19,23 +14,23 @@ use Rattle.feeds.specs.Reading.{RowsRead}
 use Rattle.feeds.proofs.Knowledge.{found_at, alone_known, count_known, places_known}
 use Rattle.feeds.proofs.Turns.{Reached, reached_end}
 
--- a row to refuse is no count
-not_counted : {k n : ℕ} → Err k ≡ Ok n → ⊥
-not_counted {k} {n} e = let z : ◌≡◌ {A = ℕ} 0 1 = cc in omega arith
+-- a refusal is no count
+not_counted : {r : Refusal ℕ} {n : ℕ} → Err r ≡ Ok n → ⊥
+not_counted e = let z : ◌≡◌ {A = ℕ} 0 1 = cc in omega arith
 
 module _ (text first area : List ℕ) where
   -- a text that is refused
-  wrong_read : (k : ℕ) → text_verdict text ≡ Refused refusal.wrong_text_row k → RowsRead (Err k) area first text
+  wrong_read : (k : ℕ) → text_verdict text ≡ Refused refusal.wrong_text_row k → RowsRead (Err (R.WrongTextRow, k)) area first text
   wrong_read k e =
       record { verdict = sym e; count = λ n d. absurd (not_counted d); stands = λ n d l. absurd (not_counted d) }
 
-  pub header_wrong : starts_with header_text text ≡ false → RowsRead (Err 0) area first text
+  pub header_wrong : starts_with header_text text ≡ false → RowsRead (Err (R.WrongTextRow, 0)) area first text
   unfolding text_verdict
   header_wrong h = wrong_read 0 (rw h)
 
   module _ (header : starts_with header_text text ≡ true) where
     pub row_wrong : (k : ℕ) → lines_verdict 1 0 0 (lines_of (body_of text)) ≡ Refused refusal.wrong_text_row (suc k)
-        → RowsRead (Err (k + 1)) area first text
+        → RowsRead (Err (R.WrongTextRow, k + 1)) area first text
     unfolding text_verdict
     row_wrong k e = wrong_read (k + 1) (rw (header, e, add-one k))
 
@@ -48,7 +43,7 @@ module _ (text first area : List ℕ) where
           rw (header, e.0) (sym (alone_known (rows_of text)) ∙ ap (λ (q : Progress). found_at (alone_after q)) (sym e.1))
 
       -- the first row found alone
-      pub alone_wrong : (k : ℕ) → Some k ≡ alone_after p → RowsRead (Err k) area first text
+      pub alone_wrong : (k : ℕ) → Some k ≡ alone_after p → RowsRead (Err (R.WrongTextRow, k)) area first text
       alone_wrong k found = wrong_read k (end_told ∙ rw (← found))
 
       pub rows_right : None ≡ alone_after p → RowsRead (Ok p.connections) area first text

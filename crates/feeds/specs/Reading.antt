@@ -1,11 +1,11 @@
 -- What the reading of a text's rows needs and leaves. Assumes nothing.
-use Rattle.std.specs.Prelude.{◌≡◌, true, cond, Option, Some, None, Result, Ok, Err, List, ℕ, ◌≤◌, length}
+use Rattle.std.specs.Prelude.{◌≡◌, true, cond, Option, Some, None, Result, Ok, List, ℕ, ◌≤◌, length}
 use Rattle.std.proofs.lemmas.List.Edits.{sets}
 use Rattle.numbers.specs.Numbers.{bytes_of}
 use Rattle.timetable.specs.Check.{max_connections}
-use Rattle.refusals.specs.Answers.{Verdict, Passed, Refused}
+use Rattle.refusals.specs.Answers.{verdict_of}
 use Rattle.cuts.specs.Cut.{starts_with}
-use Rattle.refusals.specs.RefusalNumber as refusal
+use Rattle.refusals.specs.declared.Refusal.{Refusal}
 use Rattle.gtfs.specs.Feed.{may_follow, text_verdict}
 use Rattle.gtfs.specs.StopTimes.{header_text}
 use Rattle.gtfs.specs.Files.{connection_numbers}
@@ -42,15 +42,10 @@ pub record Reading (text area : List ℕ) : Type 0 where
   pub header : starts_with header_text text ≡ true
   pub room : length area ≡ connections_room
 
--- refusal 31 as the rows tell it
-abbrev pub verdict_in : Result ℕ ℕ → Verdict
-verdict_in (Ok n) = Passed
-verdict_in (Err place) = Refused refusal.wrong_text_row place
-
 -- what the reading of a text's rows leaves: refusal 31; where there is none, how many connections, and these at the area's front, if a
 -- timetable may have so many
-pub record RowsRead (r : Result ℕ ℕ) (after before text : List ℕ) : Type 0 where
-  pub verdict : verdict_in r ≡ text_verdict text
+pub record RowsRead (r : Result ℕ (Refusal ℕ)) (after before text : List ℕ) : Type 0 where
+  pub verdict : verdict_of r ≡ text_verdict text
   pub count : (n : ℕ) → r ≡ Ok n → n ≡ length (text_connections text)
   pub stands : (n : ℕ) → r ≡ Ok n → n ≤ max_connections
       → after ≡ sets before 0 (bytes_of (connection_numbers (text_connections text)))

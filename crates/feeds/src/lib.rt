@@ -7,6 +7,7 @@ ghost use Rattle.feeds.specs.Progress.{connections_room, alone_after, Advancing,
 ghost use Rattle.feeds.specs.Reading.{Taking, Taken, Reading, RowsRead};
 
 use gtfs::StopTime;
+use refusals::{Reason, Refusal};
 
 // How many bytes the connections of a timetable have at most: `connections_room`.
 pub const CONNECTIONS_ROOM: usize = timetable::CONNECTION_LENGTH * timetable::MAX_CONNECTIONS;
@@ -22,7 +23,7 @@ pub struct Progress {
     pub stop: u16,
     pub departure: u16,
     pub sequence: u16,
-    // whether the last row has the trip of the one before it, or there is none: no value hangs on it
+    // whether the last row has the trip of the one before it, or no row has been read; no value hangs on it
     pub joined: bool,
     // the first row found alone in its trip
     pub alone: Option<usize>,
@@ -73,6 +74,7 @@ fn advance(progress: Progress, row: StopTime) -> Progress
 }
 
 // The connection from the last row to the next one of its trip, into its place of the area, as far as a timetable has connections.
+#[tactic(auto, using(numbers::proofs::Bytes::numbers_placed))]
 fn put_connection(progress: Progress, row: StopTime, area: &mut [u8])
     requires { length area.old ≡ connections_room }
     ensures { area.new ≡ connected progress row area.old }
@@ -115,8 +117,9 @@ fn take_row(
     Some((advance(progress, row), next))
 }
 
-// The rows after the first line of a text: how many connections they make, or the row to refuse.
-fn read_body(text: &[u8], area: &mut [u8]) -> Result<usize, usize>
+// The rows after the first line of a text: how many connections they make, or refusal 31. By places, and not by the lines of the
+// text: a row is found column by column, and an iterator over lines would go through each line once more.
+fn read_body(text: &[u8], area: &mut [u8]) -> Result<usize, Refusal<usize>>
     requires { Reading text.now area.old }
     ensures { RowsRead result area.new area.old text.now }
 {
@@ -130,27 +133,25 @@ fn read_body(text: &[u8], area: &mut [u8]) -> Result<usize, usize>
         alone: None,
         connections: 0,
     };
-    let mut at = gtfs::HEADER_TEXT_LENGTH;
+    let mut at = gtfs::HEADER_TEXT.len();
     while at < text.len() {
-        (progress, at) = take_row(text, at, progress, area).ok_or(progress.row + 1)?;
+        let wrong = Refusal(Reason::WrongTextRow, progress.row + 1);
+        (progress, at) = take_row(text, at, progress, area).ok_or(wrong)?;
     }
     match alone_after(progress) {
-        Some(row) => Err(row),
+        Some(row) => Err(Refusal(Reason::WrongTextRow, row)),
         None => Ok(progress.connections),
     }
 }
 
-// The connections that a text's rows make, into an area, as far as a timetable has connections: how many they are, or the row to refuse.
+// The connections that a text's rows make, into an area, as far as a timetable has connections: how many they are, or refusal 31.
 #[tactic(auto, using(crate::proofs::Verdicts::header_wrong))]
-pub fn read_rows(text: &[u8], area: &mut [u8]) -> Result<usize, usize>
+pub fn read_rows(text: &[u8], area: &mut [u8]) -> Result<usize, Refusal<usize>>
     requires { length area.old ≡ connections_room }
     ensures { RowsRead result area.new area.old text.now }
 {
-    if !cuts::starts_with(
-        text,
-        b"trip_id,arrival_time,departure_time,stop_id,stop_sequence\n",
-    ) {
-        return Err(0);
+    if !cuts::starts_with(text, gtfs::HEADER_TEXT) {
+        return Err(Refusal(Reason::WrongTextRow, 0));
     }
     read_body(text, area)
 }

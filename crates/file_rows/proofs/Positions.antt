@@ -1,10 +1,5 @@
 -- The position of a connection by the one before it. Assumes nothing.
-use mathlib.Core.Path.{◌≡◌, sym, ◌∙◌}
-use mathlib.Core.Bool.{true}
-use mathlib.Core.List.{List}
-use Prim.Native.Nat.{ℕ, zero, suc, ◌+◌, ◌≤◌}
-use native.Mathlib.Numerals.{add-one}
-use native.Mathlib.Omega.{arith}
+use Rattle.std.proofs.Common.{◌≡◌, ℕ, zero, suc, ◌+◌, ◌≤◌, true, List, sym, ◌∙◌, add-one, arith}
 use Rattle.timetable.specs.File.{stays_aboard}
 use Rattle.gtfs.specs.Rows.{position}
 use Rattle.gtfs.proofs.Rows.{position_next, position_low, position_first}

@@ -1,10 +1,6 @@
 -- Laws of the fronts of areas of bytes: what is read there, what is written back, and how many numbers cover what an accepted
 -- timetable needs. Assumes nothing.
-use mathlib.Core.Path.{◌≡◌, sym, ◌∙◌, ap, ap₂}
-use mathlib.Core.List.{List, ◌++◌}
-use Prim.Native.Nat.{ℕ, ◌≤◌}
-use native.Mathlib.Omega.{arith}
-use lib.ListN.{length, take, drop, take-append-drop}
+use Rattle.std.proofs.Common.{◌≡◌, ℕ, ◌≤◌, List, ◌++◌, length, take, drop, sym, ap, ◌∙◌, ap₂, arith, take-append-drop}
 use lib.Seq.{take-append-le, drop-append-le}
 use Rattle.numbers.specs.Numbers.{numbers_of, over_bytes}
 use Rattle.numbers.proofs.Areas.{Bytes, changed_written}

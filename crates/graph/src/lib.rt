@@ -13,8 +13,10 @@ ghost use Rattle.model.specs.Shown.{Drawn};
 ghost use Rattle.calls.specs.Call.{asks_of, standing_after, called_by};
 
 use calls::Call;
-use model::Notice;
+use model::{Lent, Notice};
+use notices::Posted;
 use refusals::Refusal;
+use times::Outlook;
 use timetable::Timetable;
 
 // The check of a file, building, and why a connection is late.
@@ -47,16 +49,16 @@ fn work_call(timetable: Timetable, notices: &mut [u16], graph: &mut [u16], call:
         (standing_after call (rows_of notices.old)) }
 {
     calls::note_call(notices, timetable.connections, call);
-    drawing::fill_graph(timetable, notices, graph);
+    drawing::fill_graph(Outlook { timetable, notices }, graph);
 }
 
-// A call: the notices that stand, and the graph with them.
+// A call: the notices that stand, and the graph with them. `post` and `withdraw` give it a call each, by the name of the operation.
 fn update(file: &[u8], notices: &mut [u16], graph: &mut [u16], call: Call) -> Result<u16, Refusal>
     ensures { outcome (told result) (lent notices.new graph.new)
         ≡ called_by (day_of file.now) (lent notices.old graph.old) call }
 {
-    let timetable = examine(file, notices, graph)?;
-    calls::call_verdict(notices, timetable.connections, call)?;
+    let timetable = examine(file, Lent { notices, graph })?;
+    calls::call_verdict(Posted { notices }, timetable.connections, call)?;
     work_call(timetable, notices, graph, call);
     Ok(calls::number_of(call))
 }
@@ -66,18 +68,11 @@ pub fn post(
     file: &[u8],
     notices: &mut [u16],
     graph: &mut [u16],
-    number: u16,
-    connection: u16,
-    delay: u16,
+    notice: Notice,
 ) -> Result<u16, Refusal>
     ensures { outcome (told result) (lent notices.new graph.new)
-        ≡ posted (day_of file.now) (lent notices.old graph.old) number connection delay }
+        ≡ posted (day_of file.now) (lent notices.old graph.old) notice.number notice.connection notice.delay }
 {
-    let notice = Notice {
-        number,
-        connection,
-        delay,
-    };
     update(file, notices, graph, Call::Post(notice))
 }
 

@@ -1,17 +1,8 @@
 -- Laws of times of day: which words are none, what one is, which bytes it has, and that a time written is read again. Assumes nothing.
-use mathlib.Core.Path.{◌≡◌, refl, sym, ap, ◌∙◌}
-use mathlib.Core.Logic.{⊎_elim}
-use mathlib.Core.Bool.{Bool, true, false, cond, ◌&&◌, ◌||◌, and-false}
-use mathlib.Core.List.{List, [], ◌∷◌}
-use Prim.Native.Nat.{ℕ, ◌+◌, ◌*◌, ◌-◌, ◌/◌, ◌%◌, ◌<◌, ◌≤◌}
-use native.Mathlib.Omega.{arith}
-use borrow.Author.Tests.{leb-true, le-leb, eq-eqb, ne_eqb, eqb-true}
-use lib.Dec.{leb, eqb}
-use lib.ListN.{length, get_or, take, drop, length-take, length-drop, take-append-drop, drop_of_length-le}
-use lib.Seq.{drop-cons}
+use Rattle.std.proofs.Common.{◌≡◌, ℕ, ◌+◌, ◌-◌, ◌*◌, ◌/◌, ◌%◌, ◌<◌, ◌≤◌, Bool, true, false, cond, ◌&&◌, ◌||◌, eqb, leb, List, [], ◌∷◌, length, get_or, take, drop, Some, None, sym, refl, ap, ◌∙◌, ⊎_elim, arith, length-drop, take-append-drop, drop_of_length-le, length-take, drop-cons, eq-eqb, ne_eqb, eqb-true, le-leb, leb-true}
+use mathlib.Core.Bool.{and-false}
 use Rattle.decimals.specs.Bytes.{digit_zero, digit_nine}
 use Rattle.decimals.specs.Decimal.{max_digits, max_number, is_digit, all_digits, value_after, value_of, decimal}
-use Rattle.std.proofs.Common.{Some, None}
 use Rattle.std.proofs.lemmas.Option.{cond_some}
 use Rattle.timetable.proofs.Tests.{by_lt, by_bool, not_both, and_left, and_right, and_both, or_cases, or_left, or_right}
 use Rattle.cuts.specs.Cut.{has}

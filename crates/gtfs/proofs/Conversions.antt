@@ -1,16 +1,9 @@
 -- What a conversion answers and leaves: refused as its verdict says, for want of room, or done; and what one that is accepted tells.
 -- Assumes nothing.
-use mathlib.Core.Path.{◌≡◌, refl, sym, ap, ◌∙◌}
-use mathlib.Core.List.{List, ◌++◌}
-use Prim.Native.Nat.{ℕ, ◌<◌, ◌≤◌}
-use native.Mathlib.Omega.{arith}
-use borrow.Author.Tests.{lt-ltb, le-ltb}
-use lib.ListN.{length, take, drop}
-use lib.Seq.{take_at}
+use Rattle.std.proofs.Common.{◌≡◌, ℕ, ◌<◌, ◌≤◌, List, ◌++◌, length, take, drop, Ok, Result, sym, refl, ap, ◌∙◌, arith, take_at, le-ltb, lt-ltb}
 use Rattle.refusals.specs.Answers.{accepted, refused, or_else, answering, Verdict, Passed, Refused, told}
 use Rattle.timetable.proofs.Tests.{below}
 use Rattle.timetable.proofs.Order.{else_passed, rule}
-use Rattle.std.specs.Prelude.{Result, Ok, Err}
 use Rattle.refusals.specs.declared.Refusal.{Refusal}
 use Rattle.refusals.specs.RefusalNumber as refusal
 use Rattle.gtfs.specs.Conversions.{Conversion, conversion, written, room_verdict, converted}

@@ -1,11 +1,6 @@
 -- The file of transfer times and connections: what is read in it, and that it is of bytes where it is a timetable. Assumes nothing.
-use mathlib.Core.Path.{◌≡◌, ◌∙◌}
-use mathlib.Core.Logic.{⊎_elim}
-use mathlib.Core.List.{List, [], ◌∷◌, ◌++◌, append-nil}
-use Prim.Native.Nat.{ℕ, zero, suc, ◌+◌, ◌*◌, ◌-◌, ◌/◌, ◌%◌, ◌<◌, ◌≤◌}
-use native.Mathlib.Omega.{arith}
-use lib.ListN.{length, get_or, get_or-eq_default}
-use lib.Seq.{take_at}
+use Rattle.std.proofs.Common.{◌≡◌, ℕ, zero, suc, ◌+◌, ◌-◌, ◌*◌, ◌/◌, ◌%◌, ◌<◌, ◌≤◌, List, [], ◌∷◌, ◌++◌, length, get_or, ◌∙◌, ⊎_elim, append-nil, arith, take_at}
+use lib.ListN.{get_or-eq_default}
 use Rattle.numbers.specs.Numbers.{number_at, bytes_of}
 use Rattle.numbers.proofs.Areas.{Bytes}
 use Rattle.numbers.proofs.Bytes.{length_bytes, bytes_append, number_in, bytes_fit}

@@ -1,10 +1,6 @@
 -- What an import is refused with, refusal by refusal. Assumes nothing.
-use mathlib.Core.Path.{◌≡◌}
-use mathlib.Core.List.{List}
-use Prim.Native.Nat.{ℕ, ◌≤◌, ◌<◌}
-use native.Mathlib.Omega.{arith}
-use borrow.Author.Tests.{le-leb, lt-leb, le-ltb, lt-ltb}
-use lib.ListN.{length}
+use Rattle.std.proofs.Common.{◌≡◌, ℕ, ◌<◌, ◌≤◌, List, length, arith, le-ltb, lt-ltb, le-leb}
+use borrow.Author.Tests.{lt-leb}
 use Rattle.refusals.specs.RefusalNumber as refusal
 use Rattle.numbers.specs.Numbers.{numbers_of}
 use Rattle.timetable.specs.Check.{max_stops, max_connections, file_verdict}

@@ -1,12 +1,9 @@
 -- Example J as a text and back, and small texts for each sentence of the request, computed: what the definitions give beside what was
 -- worked out by hand. Texts are quoted, rows one a line. Assumes nothing.
-use mathlib.Core.Path.{◌≡◌, refl}
-use mathlib.Core.List.{List, [], ◌∷◌, ◌++◌, map}
-use Prim.Native.Nat.{ℕ}
+use Rattle.std.proofs.Common.{◌≡◌, ℕ, List, [], ◌∷◌, ◌++◌, map, replicate, refl}
 use Prim.Native.Char.{code}
 use Prim.Native.String.{String}
 use Prim.Native.String as string
-use lib.ListN.{replicate}
 use Rattle.decimals.specs.Bytes.{newline}
 use Rattle.decimals.specs.Decimal.{all_digits, value_after, decimal, last_digits, decimal_of}
 use Rattle.numbers.specs.Numbers.{numbers_of, bytes_of}

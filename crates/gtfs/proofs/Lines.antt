@@ -1,9 +1,5 @@
 -- The first line of a text that a newline ends: what it says of the text's verdict and of its rows. Assumes nothing.
-use mathlib.Core.Path.{◌≡◌}
-use mathlib.Core.Bool.{true, not, ◌&&◌}
-use mathlib.Core.List.{List, ◌∷◌}
-use Prim.Native.Nat.{ℕ, suc}
-use Rattle.std.proofs.Common.{is_some}
+use Rattle.std.proofs.Common.{◌≡◌, ℕ, suc, true, not, ◌&&◌, List, ◌∷◌, is_some}
 use Rattle.decimals.specs.Bytes.{newline}
 use Rattle.refusals.specs.Answers.{refuse_if, or_else}
 use Rattle.cuts.specs.Cut.{has, before, after, lines_of}

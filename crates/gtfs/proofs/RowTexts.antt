@@ -1,8 +1,5 @@
 -- A number of two digits written, and how long a row written is. Assumes nothing.
-use mathlib.Core.Path.{◌≡◌}
-use Prim.Native.Nat.{ℕ, ◌+◌, ◌/◌, ◌<◌, ◌≤◌}
-use native.Mathlib.Omega.{arith}
-use lib.ListN.{length, length-append}
+use Rattle.std.proofs.Common.{◌≡◌, ℕ, ◌+◌, ◌/◌, ◌<◌, ◌≤◌, length, arith, length-append}
 use Rattle.decimals.specs.Decimal.{decimal_of}
 use Rattle.decimals.proofs.Digits.{decimal_one, decimal_more}
 use Rattle.gtfs.specs.Clock.{two_digits}

@@ -1,9 +1,5 @@
 -- Rows written are read again: a row by its line, rows by their lines, and rows that may follow one another pass. Assumes nothing.
-use mathlib.Core.Path.{◌≡◌, refl, ap, ◌∙◌}
-use mathlib.Core.Bool.{true, false}
-use mathlib.Core.List.{List, [], ◌∷◌, ◌++◌, map, append_assoc}
-use Prim.Native.Nat.{ℕ, suc, ◌<◌, ◌≤◌}
-use native.Mathlib.Omega.{arith}
+use Rattle.std.proofs.Common.{◌≡◌, ℕ, suc, ◌<◌, ◌≤◌, true, false, List, [], ◌∷◌, ◌++◌, map, Some, refl, ap, ◌∙◌, append_assoc, arith}
 use Rattle.decimals.specs.Bytes.{newline}
 use Rattle.decimals.specs.Decimal.{max_number, is_digit, decimal_of}
 use Rattle.decimals.proofs.Digits.{digits_only, decimal_read}
@@ -11,7 +7,6 @@ use Rattle.refusals.specs.Answers.{Passed}
 use Rattle.cuts.specs.Cut.{has, pieces, lines_of}
 use Rattle.cuts.proofs.Cut.{before_end, after_end, has_append, digits_without, line_more}
 use Rattle.gtfs.specs.declared.StopTime.{StopTime}
-use Rattle.std.proofs.Common.{Some}
 use Rattle.gtfs.specs.Clock.{colon, time_text}
 use Rattle.gtfs.specs.StopTimes.{comma, row_of, row_text}
 use Rattle.gtfs.specs.Feed.{may_follow, lines_verdict, rows_in}

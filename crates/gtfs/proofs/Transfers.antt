@@ -1,11 +1,6 @@
 -- The transfer times of a file as numbers: how many, and which. Assumes nothing.
-use mathlib.Core.Path.{◌≡◌, ◌∙◌}
-use mathlib.Core.Logic.{⊎_elim}
-use mathlib.Core.List.{List}
-use Prim.Native.Nat.{ℕ, ◌+◌, ◌*◌, ◌<◌, ◌≤◌}
-use native.Mathlib.Omega.{arith}
-use lib.ListN.{length, get_or, drop, length-drop, get_or-eq_default}
-use lib.Seq.{length-take-le, get_or-take, get_or-drop}
+use Rattle.std.proofs.Common.{◌≡◌, ℕ, ◌+◌, ◌*◌, ◌<◌, ◌≤◌, List, length, get_or, drop, ◌∙◌, ⊎_elim, arith, length-drop, length-take-le, get_or-drop, get_or-take}
+use lib.ListN.{get_or-eq_default}
 use Rattle.numbers.specs.Numbers.{numbers_of}
 use Rattle.numbers.proofs.Areas.{length_numbers, number_at_lem}
 use Rattle.timetable.specs.File.{header_length, stops, transfer_time}

@@ -1,7 +1,7 @@
 -- Import and export: what each answers and what it leaves in the output area. Assumes nothing.
 use Rattle.std.specs.Prelude.{not, ◌&&◌, List, [], ◌∷◌, ◌++◌, ℕ, ltb, leb, length, drop}
 use Rattle.numbers.specs.Numbers.{numbers_of}
-use Rattle.refusals.specs.Answers.{Answer, accepted, refused, refuse_if, or_else, first_refusal, answering, Verdict, Passed, Refused}
+use Rattle.refusals.specs.Answers.{Answer, refuse_if, or_else, first_refusal, answering, Verdict, Passed, Refused}
 use Rattle.timetable.specs.Check.{max_stops, max_connections, file_verdict}
 use Rattle.refusals.specs.RefusalNumber as refusal
 use Rattle.gtfs.specs.Feed.{Connection, rows_of, connections_of, text_verdict}

@@ -9,8 +9,8 @@ pub const COMMA: u8 = b',';
 
 pub const NEWLINE: u8 = b'\n';
 
-// The length of the first line, with its newline: `length header_text`.
-pub const HEADER_TEXT_LENGTH: usize = 58;
+// The first line, with its newline: `header_text`.
+pub const HEADER_TEXT: &[u8] = b"trip_id,arrival_time,departure_time,stop_id,stop_sequence\n";
 
 // The minutes of an hour: `hour_minutes`.
 pub const HOUR_MINUTES: u16 = 60;

@@ -1,4 +1,4 @@
-// Gives a timetable back as stop_times.txt and change.txt.
+// Gives a timetable back as stop_times.txt and change.txt: a program has a main of its own, which passes on.
 #![tactic(auto)]
 
 fn main(rt: HostRuntime) {

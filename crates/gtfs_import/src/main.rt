@@ -1,4 +1,4 @@
-// Takes a timetable from stop_times.txt and change.txt.
+// Takes a timetable from stop_times.txt and change.txt: a program has a main of its own, which passes on.
 #![tactic(auto)]
 
 fn main(rt: HostRuntime) {

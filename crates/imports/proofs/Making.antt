@@ -1,25 +1,22 @@
 -- How a file is made at the front of an area, and how it comes into an output area. Assumes nothing.
-use mathlib.Core.Path.{◌≡◌, refl, sym, ◌∙◌, ap}
-use mathlib.Core.List.{List, [], ◌∷◌, ◌++◌, append_assoc}
-use Prim.Native.Nat.{ℕ, ◌+◌, ◌*◌, ◌≤◌, ◌<◌}
-use native.Mathlib.Omega.{arith}
+use Rattle.std.proofs.Common.{◌≡◌, ℕ, ◌+◌, ◌*◌, ◌/◌, ◌<◌, ◌≤◌, List, [], ◌∷◌, ◌++◌, length, take, drop, Ok, Err, Result, sym, refl, ap, ◌∙◌, append_assoc, arith, length-append, length-drop, length-take, length-take-le, take_at, drop_at}
 use borrow.Rule.Slice.PartMut.{mid_of, post_of, put_mid}
-use lib.ListN.{length, take, drop, length-append, length-take, length-drop}
-use lib.Seq.{sets, length-take-le, take-append-add, take_at, drop_at}
+use lib.Seq.{sets, take-append-add}
 use Rattle.numbers.specs.Numbers.{numbers_of, bytes_of}
 use Rattle.numbers.proofs.Areas.{Bytes, length_numbers}
 use Rattle.numbers.proofs.Bytes.{length_bytes, bytes_numbers}
 use Rattle.refusals.specs.Answers.{accepted, refused, answering, Verdict, Passed, Refused, told, number_of}
 use Rattle.timetable.specs.File.{header_length, connection_length, file_length}
-use Rattle.timetable.specs.Check.{format_version, file_verdict}
+use Rattle.timetable.specs.Check.{format_version, max_stops, max_connections, file_verdict}
 use Rattle.decimals.proofs.Written.{sets_append}
 use Rattle.labels.proofs.Texts.{sets_front}
 use Rattle.refusals.specs.RefusalNumber as refusal
 use Rattle.gtfs.specs.Feed.{Connection}
 use Rattle.gtfs.specs.Files.{mark, connection_numbers}
-use Rattle.gtfs.specs.Conversions.{conversion, converted, text_connections, imported_file, import_verdict, imported}
-use Rattle.std.specs.Prelude.{Result, Ok, Err}
+use Rattle.gtfs.specs.Conversions.{conversion, converted, counts_verdict, text_connections, imported_file, import_verdict, imported}
 use Rattle.refusals.specs.declared.Refusal.{Refusal}
+use Rattle.gtfs.proofs.Imports.{counts_refused, no_stops, many_stops, many_connections}
+use Rattle.feeds.specs.Reading.{RowsRead}
 use Rattle.gtfs.proofs.Files.{length_connection_numbers, file_parts}
 use Rattle.gtfs.proofs.Conversions.{converted_short, converted_done}
 use Rattle.imports.specs.Making.{Heading, heading_of, file_in, Finished, FileMade, delivered}
@@ -81,6 +78,32 @@ made_refused after e = record {
   within = λ n h. let z : ◌≡◌ {A = ℕ} 0 1 = cc in omega arith;
   stands = λ n h. let z : ◌≡◌ {A = ℕ} 0 1 = cc in absurd (omega arith);
 }
+
+-- what the counts are refused with where the rows of a text are read
+module _ {text change area before : List ℕ} {n : ℕ} (rows : RowsRead (Ok n) area before text) (after : List ℕ) where
+  made_counted : {r : Refusal ℕ}
+      → counts_verdict (length (numbers_of change)) (length (text_connections text)) ≡ Refused (number_of r.0) r.1
+      → FileMade (Err r) after text change
+  made_counted e = made_refused after (counts_refused text change (sym rows.verdict) e)
+
+  module _ {r : Refusal ℕ} (place : r.1 ≡ 0) where
+    pub made_no_stops : number_of r.0 ≡ refusal.wrong_stop_count → length change / 2 < 1 → FileMade (Err r) after text change
+    made_no_stops e h =
+        let s = length (numbers_of change) in
+        made_counted (rw (e, place) (no_stops s (length (text_connections text)) (omega (arith, length_numbers change))))
+
+    pub made_many_stops : number_of r.0 ≡ refusal.wrong_stop_count → max_stops < length change / 2 → FileMade (Err r) after text change
+    made_many_stops e h =
+        let s = length (numbers_of change) in
+        made_counted (rw (e, place) (many_stops s (length (text_connections text)) (omega (arith, length_numbers change))))
+
+    pub made_many_connections : number_of r.0 ≡ refusal.wrong_connection_count → 1 ≤ length change / 2 → length change / 2 ≤ max_stops
+        → max_connections < n → FileMade (Err r) after text change
+    made_many_connections e some few h =
+        let s = length (numbers_of change) in
+        let l = length_numbers change in
+        let m = length (text_connections text) in
+        made_counted (rw (e, place) (many_connections s m (omega arith) (omega arith) (omega (arith, rows.count n refl))))
 
 told_size : (v : Verdict) (n size : ℕ) → accepted n ≡ answering v size → n ≡ size
 told_size Passed n size e = cc

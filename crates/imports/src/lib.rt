@@ -10,11 +10,6 @@ ghost use Rattle.imports.specs.Making.{file_room, Heading, heading_of, Finished,
 use gtfs::Converted;
 use refusals::{Reason, Refusal};
 
-// The longest file: `file_room`.
-const FILE_ROOM: usize = timetable::HEADER_LENGTH
-    + 2 * timetable::MAX_STOPS
-    + feeds::CONNECTIONS_ROOM;
-
 // The header of a file and its transfer times, the first s numbers of `change`, at the front of an area.
 fn put_header(change: &[u8], s: usize, n: usize, file: &mut [u8])
     requires { Heading change.now s n file.old }
@@ -45,45 +40,17 @@ fn make_file(text: &[u8], change: &[u8], file: &mut [u8]) -> Converted
     let s = change.len() / 2;
     let behind = timetable::HEADER_LENGTH + 2 * s.min(timetable::MAX_STOPS);
     let end = behind + feeds::CONNECTIONS_ROOM;
-    let rows = feeds::read_rows(text, &mut file[behind..end]);
-    match rows {
-        Err(row) => Err(Refusal(Reason::WrongTextRow, row)),
-        Ok(n) => {
-            if s < 1 {
-                return Err(Refusal(Reason::WrongStopCount, 0));
-            }
-            if timetable::MAX_STOPS < s {
-                return Err(Refusal(Reason::WrongStopCount, 0));
-            }
-            if timetable::MAX_CONNECTIONS < n {
-                return Err(Refusal(Reason::WrongConnectionCount, 0));
-            }
-            finish_file(change, s, n, file)
-        }
+    let n = feeds::read_rows(text, &mut file[behind..end])?;
+    if s < 1 {
+        return Err(Refusal(Reason::WrongStopCount, 0));
     }
-}
-
-// The bytes that a file was made of, if it was, into an output area.
-fn deliver(made: Converted, file: &[u8], output: &mut [u8]) -> Converted
-    requires { (n : ℕ) → made ≡ Ok n → n ≤ length file.now }
-    ensures { conversion (told result) output.new ≡ delivered made file.now output.old }
-{
-    let n = made?;
-    if output.len() < n {
-        return Err(Refusal(Reason::ShortOutput, 0));
+    if timetable::MAX_STOPS < s {
+        return Err(Refusal(Reason::WrongStopCount, 0));
     }
-    labels::put_text(&file[0..n], output, 0);
-    Ok(n)
-}
-
-// The same with an area to make the file in.
-fn import_by(text: &[u8], change: &[u8], output: &mut [u8], file: &mut [u8]) -> Converted
-    requires { length file.old ≡ file_room }
-    ensures { conversion (told result) output.new
-        ≡ imported text.now change.now output.old }
-{
-    let made = make_file(text, change, file);
-    deliver(made, file, output)
+    if timetable::MAX_CONNECTIONS < n {
+        return Err(Refusal(Reason::WrongConnectionCount, 0));
+    }
+    finish_file(change, s, n, file)
 }
 
 // The timetable file of a text and of each stop's transfer time, an area of numbers, into an output area.
@@ -91,6 +58,12 @@ pub fn import(text: &[u8], change: &[u8], output: &mut [u8]) -> Converted
     ensures { conversion (told result) output.new
         ≡ imported text.now change.now output.old }
 {
-    let mut file = [0u8; FILE_ROOM];
-    import_by(text, change, output, &mut file)
+    // Room for the longest file, `file_room`. No Vec: the library has no heap, its memory is fixed.
+    let mut file = [0u8; acceptance::LONGEST_FILE];
+    let n = make_file(text, change, &mut file)?;
+    if output.len() < n {
+        return Err(Refusal(Reason::ShortOutput, 0));
+    }
+    labels::put_text(&file[0..n], output, 0);
+    Ok(n)
 }

@@ -1,6 +1,5 @@
 -- Lines found, byte by byte. Assumes nothing.
-use mathlib.Core.Path.{◌≡◌, refl}
-use mathlib.Core.List.{[], ◌∷◌}
+use Rattle.std.proofs.Common.{◌≡◌, [], ◌∷◌, refl}
 use Rattle.input.specs.Lines.{input_lines}
 
 -- a line, an empty line, and a last line without a newline: "w 7", "", "x"

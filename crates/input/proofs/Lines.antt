@@ -1,11 +1,7 @@
 -- Laws of the lines of an input. Assumes nothing.
-use mathlib.Core.Path.{◌≡◌, refl, ap, ◌∙◌}
-use mathlib.Core.Logic.{⊎_elim}
-use mathlib.Core.Bool.{true, false}
-use mathlib.Core.List.{List, [], ◌∷◌, ◌++◌, flatten}
-use Prim.Native.Nat.{ℕ}
+use Rattle.std.proofs.Common.{◌≡◌, ℕ, true, false, eqb, List, [], ◌∷◌, ◌++◌, refl, ap, ◌∙◌, ⊎_elim}
+use mathlib.Core.List.{flatten}
 use native.Mathlib.Numerals.{unary_clauses}
-use lib.Dec.{eqb}
 use Rattle.decimals.specs.Bytes.{newline}
 use Rattle.cuts.specs.Cut.{has, before, on_first}
 use Rattle.commands.specs.Commands.{ended}

@@ -13,15 +13,12 @@ pub fn whole_end(block: &[u8], at: usize) -> Option<usize>
     ensures { MatchOption result (plain (drop at block.now) ≡ true)
         (λ end. (at < end) × (end ≡ at + length (whole_line (drop at block.now)))) }
 {
-    let end = cuts::end_of(block, at, b'\n');
-    if end < block.len() {
-        Some(end + 1)
-    } else {
-        None
-    }
+    let end = cuts::end_of(block, at, b'\n')?;
+    Some(end + 1)
 }
 
 // What is held of the bytes of a block from `at` up to `end`, moved to its front; how many bytes.
+#[tactic(auto, using(crate::proofs::Holding::moved_held))]
 pub fn hold(block: &mut [u8], at: usize, end: usize) -> usize
     requires { (at ≤ end) × (end ≤ length block.old) }
     ensures { HeldBack result block.new block.old (take (end - at) (drop at block.old)) }

@@ -1,15 +1,5 @@
 -- The search for the last connection of a journey: its turns, and what it ends with. Assumes nothing.
-use mathlib.Core.Path.{◌≡◌, refl, sym, ◌∙◌}
-use mathlib.Core.Logic.{inl, inr}
-use mathlib.Core.Bool.{Bool, true, false, ◌&&◌, true≢false}
-use mathlib.Core.List.{List}
-use Prim.Native.Nat.{ℕ, ◌+◌, ◌<◌, ◌≤◌}
-use native.Mathlib.Omega.{arith}
-use lib.Dec.{eqb}
-use lib.ListN.{length, get_or}
-use borrow.Author.Count.{below_more}
-use borrow.Author.Tests.{lt-ltb, le-ltb}
-use Rattle.std.specs.Prelude.{Option, Some, None, MatchOption}
+use Rattle.std.proofs.Common.{◌≡◌, ℕ, ◌+◌, ◌<◌, ◌≤◌, Bool, true, false, ◌&&◌, eqb, List, length, get_or, Some, None, Option, MatchOption, sym, refl, ◌∙◌, inl, inr, true≢false, arith, below_more, le-ltb, lt-ltb}
 use Rattle.timetable.specs.File.{to}
 use Rattle.model.specs.Least.{none, key, Found, Nobody}
 use Rattle.model.specs.Network.{Network}

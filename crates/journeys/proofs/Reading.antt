@@ -1,11 +1,5 @@
 -- Reading a journey: what its steps ask and what they give together. Assumes nothing.
-use mathlib.Core.Path.{◌≡◌, sym, ◌∙◌, ap}
-use mathlib.Core.List.{List}
-use Prim.Native.Nat.{ℕ, ◌<◌, ◌≤◌}
-use native.Mathlib.Omega.{arith}
-use lib.Dec.{eqb}
-use lib.ListN.{length, get_or, take}
-use borrow.Author.Tests.{eq-eqb, ne_eqb}
+use Rattle.std.proofs.Common.{◌≡◌, ℕ, ◌<◌, ◌≤◌, eqb, List, length, get_or, take, sym, ap, ◌∙◌, arith, eq-eqb, ne_eqb}
 use Rattle.refusals.specs.Answers.{accepted, refused}
 use Rattle.timetable.specs.Check.{max_connections}
 use Rattle.refusals.specs.RefusalNumber as refusal

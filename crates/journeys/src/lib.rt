@@ -12,7 +12,7 @@ ghost use Rattle.journeys.specs.Reading.{read_out};
 ghost use Rattle.refusals.specs.Answers.{told};
 
 use graph::Network;
-use model::{Arrival, NONE};
+use model::{Arrival, NONE, Request};
 use refusals::{Reason, Refusal};
 use timetable::Timetable;
 
@@ -28,6 +28,7 @@ fn arrives_at(timetable: Timetable, predecessors: &[u16], c: usize, stop: u16) -
 }
 
 // One turn of the search for the last connection: the better of the best so far and c.
+#[tactic(auto, using(crate::proofs::Last::turn_fails, crate::proofs::Last::turn_first, crate::proofs::Last::turn_wins))]
 fn better(
     network: Network,
     predecessors: &[u16],
@@ -53,6 +54,9 @@ fn better(
 }
 
 // The last connection of the journey to a stop.
+// A loop: `filter_map` and `min`, over arrival and number as one number, were tried and proved, and cost 3.5 instructions more for each
+// connection, 2.4 in a hundred of an enquiry at 2,000.
+#[tactic(auto, using(crate::proofs::Last::search_done))]
 fn find_last(network: Network, predecessors: &[u16], stop: u16) -> Option<u16>
     requires { length predecessors.now ≡ network.shown.timetable.connections }
     ensures { MatchOption result
@@ -66,30 +70,28 @@ fn find_last(network: Network, predecessors: &[u16], stop: u16) -> Option<u16>
     best
 }
 
-// The journey to stop `to` read out of the predecessors of an enquiry from stop `from` at `time`: its connections in the
-// order of travel to the front of `journey`, or refusal 30.
+// The journey that a request asks for, read out of its predecessors: its connections in the order of travel to the front of
+// `journey`, or refusal 30.
 pub fn read_journey(
     network: Network,
     work: &[u16],
     journey: &mut [u16],
-    from: u16,
-    to: u16,
-    time: u16,
+    request: Request,
 ) -> Result<Arrival, Refusal>
     requires journey_room { network.shown.timetable.connections ≤ length journey.old }
     requires work_value { take network.shown.timetable.connections work.now
-        ≡ predecessors (shown network.shown.timetable.file.now network.shown.graph.now) from time }
+        ≡ predecessors (shown network.shown.timetable.file.now network.shown.graph.now) request.from request.time }
     ensures { enquiry (told result) work.now journey.new
-        ≡ read_out (shown network.entry.shown.timetable.file.now network.entry.shown.graph.now) work.now journey.old from to time }
+        ≡ read_out (shown network.entry.shown.timetable.file.now network.entry.shown.graph.now) work.now journey.old request.from request.to request.time }
 {
-    if from == to {
+    if request.from == request.to {
         return Ok(Arrival {
-            time,
+            time: request.time,
             connections: 0,
         });
     }
     let predecessors = &work[..network.shown.timetable.connections];
-    let Some(last) = find_last(network, predecessors, to) else {
+    let Some(last) = find_last(network, predecessors, request.to) else {
         return Err(Refusal(Reason::Unreachable, 0));
     };
     let count = trails::write_journey(predecessors, journey, last);

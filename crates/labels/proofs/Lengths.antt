@@ -1,8 +1,5 @@
 -- How long the line of one number is. Assumes nothing.
-use mathlib.Core.List.{List}
-use Prim.Native.Nat.{ℕ, ◌^◌, ◌<◌, ◌≤◌}
-use native.Mathlib.Omega.{arith}
-use lib.ListN.{length, length-append}
+use Rattle.std.proofs.Common.{ℕ, ◌^◌, ◌<◌, ◌≤◌, List, length, arith, length-append}
 use Rattle.labels.specs.Labels.{number_line}
 use Rattle.labels.specs.Room.{line_room}
 use Rattle.decimals.proofs.Digits.{digits_ten}

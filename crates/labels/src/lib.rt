@@ -1,5 +1,6 @@
 // Labels with their numbers, and lines of one number and of two. What is put stands in out from a place on, and the place after it is the
-// answer; a line that is written stands at the front of out, and its length is the answer.
+// answer; a line that is written stands at the front of out, and its length is the answer. An area and a place in it stand for a String,
+// since there is no heap; they are two parameters, since a struct of an area that is written has to be taken apart for each write.
 #![tactic(auto)]
 
 ghost use Rattle.std.specs.Prelude.{◌+◌, ◌≤◌, length};

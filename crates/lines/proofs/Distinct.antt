@@ -1,14 +1,7 @@
 -- Different answers have different lines: an answer can be told from its line, by the line's first letter, its sign
 -- and the numbers in it. Assumes nothing.
-use mathlib.Core.Path.{◌≡◌, refl, sym, ap, ◌∙◌}
-use mathlib.Core.Bool.{Bool, true, false, cond}
-use mathlib.Core.List.{List, [], ◌∷◌, ◌++◌, append_assoc}
-use Prim.Native.Nat.{ℕ, suc, ◌+◌, ◌*◌, ◌-◌, ◌≤◌}
-use native.Mathlib.Omega.{arith}
-use borrow.Author.Tests.{leb-true, ne_eqb}
-use lib.Dec.{leb, eqb}
+use Rattle.std.proofs.Common.{◌≡◌, ℕ, suc, ◌+◌, ◌-◌, ◌*◌, ◌≤◌, Bool, true, false, cond, eqb, leb, List, [], ◌∷◌, ◌++◌, length, get_or, drop, sym, refl, ap, ◌∙◌, append_assoc, arith, ne_eqb, leb-true}
 use lib.IntN.{ℤ, pos, negsuc, nat_abs}
-use lib.ListN.{length, get_or, drop}
 use Rattle.decimals.specs.Bytes.{digit_zero, digit_nine}
 use Rattle.decimals.specs.Decimal.{is_digit, all_digits, value_after, value_of, decimal_of}
 use Rattle.labels.specs.Labels.{line_end, labelled, pair_line}

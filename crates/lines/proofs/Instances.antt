@@ -1,6 +1,5 @@
 -- Lines written, byte by byte. Assumes nothing.
-use mathlib.Core.Path.{◌≡◌, refl}
-use mathlib.Core.List.{[], ◌∷◌, map}
+use Rattle.std.proofs.Common.{◌≡◌, [], ◌∷◌, map, refl}
 use lib.IntN.{pos, negsuc}
 use Rattle.decimals.specs.Decimal.{last_digits, decimal_of}
 use Rattle.arrivals.specs.Arrivals.{journey_text, arrives_line}

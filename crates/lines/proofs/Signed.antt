@@ -1,13 +1,7 @@
 -- The line of a margin, by the sign. Assumes nothing.
-use mathlib.Core.Path.{◌≡◌, refl}
-use mathlib.Core.Bool.{true, false}
-use native.Mathlib.Omega.{arith}
-use borrow.Author.Tests.{ltb-true}
+use Rattle.std.proofs.Common.{◌≡◌, true, false, refl, arith, to_z-of_z, w32, SFits, to_z, of_z, ltb-true}
 use lib.IntN.{ℤ, pos, negsuc, nat_abs}
 use lib.Signed.{lt_z}
-use mir.Syntax.{w32}
-use mir.Val.{SFits, to_z, of_z}
-use mir.Facts.{to_z-of_z}
 use Rattle.labels.specs.Labels.{number_line}
 use Rattle.lines.specs.Lines.{margin_label, minus_label, margin_line}
 

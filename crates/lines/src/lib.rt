@@ -1,4 +1,6 @@
 // Answer lines written: numbers in, bytes out. A writer's line stands at the front of out, and its length is the answer.
+// Each asks for room by a clause of its own: an array's length in the type would ask more of callers, who may lend any area with room, and a
+// struct of a written area has to be taken apart before it is lent, see `model::Lent`.
 #![tactic(auto)]
 
 ghost use Rattle.std.specs.Prelude.{◌≤◌, length};
@@ -14,7 +16,7 @@ pub fn write_counts(stops: u16, connections: u16, out: &mut [u8]) -> usize
     labels::write_pair(b"stops ", stops, b" rides ", connections, out)
 }
 
-// A posted notice's number.
+// A posted notice's number. One function for this line and the next would take the word that they differ by: it is `labels::write_number`.
 #[tactic(auto, using(crate::proofs::Lengths::parts), unfolding(crate::specs::Lines::posted_line))]
 pub fn write_posted(number: u16, out: &mut [u8]) -> usize
     requires { line_room ≤ length out.old }
@@ -42,7 +44,7 @@ pub fn write_refusal(number: u16, place: u16, out: &mut [u8]) -> usize
 }
 
 // A margin in minutes.
-#[tactic(auto, using(crate::proofs::Lengths::parts))]
+#[tactic(auto, using(crate::proofs::Lengths::parts, crate::proofs::Signed::margin_minus, crate::proofs::Signed::margin_plus))]
 pub fn write_margin(minutes: i32, out: &mut [u8]) -> usize
     requires { line_room ≤ length out.old }
     ensures { LineIs result out.new out.old (margin_line minutes) }

@@ -1,16 +1,6 @@
 -- How the link of one more board or connection keeps the marks of connections and boards, and what the check of a link has told.
 -- Assumes nothing.
-use mathlib.Core.Path.{◌≡◌, refl, sym, ◌∙◌}
-use mathlib.Core.Bool.{true}
-use mathlib.Core.List.{List}
-use mathlib.Core.Logic.{⊎_elim}
-use Prim.Native.Nat.{ℕ, suc, ◌+◌, ◌<◌, ◌≤◌}
-use native.Mathlib.Numerals.{add-one}
-use native.Mathlib.Omega.{arith}
-use borrow.Author.Tests.{ltb-true, eq-eqb, ne_eqb}
-use lib.Dec.{ltb, eqb}
-use lib.ListN.{length, get_or, set, length-set}
-use lib.Seq.{get_or-set_same, get_or-set_other}
+use Rattle.std.proofs.Common.{◌≡◌, ℕ, suc, ◌+◌, ◌<◌, ◌≤◌, true, eqb, ltb, List, length, get_or, set, sym, refl, ◌∙◌, ⊎_elim, add-one, arith, length-set, get_or-set_other, get_or-set_same, ltb-true, eq-eqb, ne_eqb}
 use Rattle.model.specs.Least.{none, key}
 use Rattle.model.specs.Network.{Network, Sound}
 use Rattle.model.specs.Graph.{board, departure_in, waiting_in, first_in}

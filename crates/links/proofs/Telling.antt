@@ -1,10 +1,6 @@
 -- What an answer tells, from one test or from a test of each number below another. Assumes nothing.
-use mathlib.Core.Path.{refl}
-use mathlib.Core.Bool.{Bool, true, false, false≢true}
-use Prim.Native.Nat.{ℕ, ◌<◌}
-use native.Mathlib.Nat.{zero-add}
-use native.Mathlib.Omega.{arith}
-use lib.ListN.{length}
+use Rattle.std.proofs.Common.{◌≡◌, ℕ, ◌<◌, Bool, true, false, length, refl, zero-add, arith}
+use mathlib.Core.Bool.{false≢true}
 use Rattle.std.specs.Bool.{MatchBool}
 use Rattle.std.specs.List.{range_with_len, AllWithin, HoldsAt}
 use Rattle.std.proofs.lemmas.List.FromFn.{length-range_with_len, get_or-range_with_len}
@@ -27,6 +23,10 @@ module _ {P Q : Type 0} where
 -- the same told in other words
 pub tells_as : {b : Bool} {P Q : Type 0} → Tells b P → (P → Q) → (Q → P) → Tells b Q
 tells_as t f g = (λ e. f (t.0 e), λ q. t.1 (g q))
+
+-- what fails denies all that it follows from
+pub tells_not : {b : Bool} {P Q : Type 0} → Tells b P → b ≡ false → (Q → P) → Tells false Q
+tells_not t e f = tells_no (λ q. let h = t.1 (f q) in cc)
 
 -- what the library's `all` answers of the numbers below n
 pub tells_below : (P : ℕ → Type 0) (r : Bool) (n : ℕ)

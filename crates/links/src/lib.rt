@@ -26,25 +26,18 @@ pub fn link_first(shown: Shown, b: usize, marks: &mut [u16]) -> bool
     true
 }
 
-// Whether connection d departs after c: later, or in the same minute with a higher number. A comparison of two tuples, or of both parts in
-// one line, takes two hundredths more instructions of an enquiry.
+// Whether connection d departs after c: later, or in the same minute with a higher number.
 fn is_after(shown: Shown, c: usize, d: usize) -> bool
     requires { (c < shown.timetable.connections) × (d < shown.timetable.connections) }
     ensures { result ≡ ltb (key (departure_in shown.entry.graph.now) c) (key (departure_in shown.entry.graph.now) d) }
 {
     let own = shown.departure(c);
     let next = shown.departure(d);
-    if own < next {
-        return true;
-    }
-    if next < own {
-        return false;
-    }
-    c < d
+    own < next || own == next && c < d
 }
 
 // Whether the waiting entry of connection c is none or is on the same board and leaves after c; it is marked with c's departure,
-// or the board is if there is none. The two lists of marks are no struct: link_first writes one alone, change_right only reads them.
+// or the board is if there is none. The two lists of marks are no struct here: link_first writes one alone.
 pub fn link_next(shown: Shown, c: usize, marks: &mut [u16], lasts: &mut [u16]) -> bool
     requires { (c < shown.timetable.connections)
         × NextsLinked shown.timetable.file.now shown.graph.now shown.timetable.stops c marks.old lasts.old }

@@ -1,14 +1,9 @@
 -- The sweep over the departures of a network from the last to the first. Assumes nothing.
-use mathlib.Core.Path.{◌≡◌, refl}
-use mathlib.Core.List.{List}
-use mathlib.Core.Logic.{inl, inr, ⊎_elim}
-use Prim.Native.Nat.{ℕ, ◌+◌, ◌<◌, ◌≤◌}
-use native.Mathlib.Omega.{arith}
-use lib.ListN.{length, get_or, set}
-use Rattle.model.specs.Least.{key, tab}
+use Rattle.std.proofs.Common.{◌≡◌, ℕ, ◌+◌, ◌<◌, ◌≤◌, List, length, get_or, set, refl, inl, inr, ⊎_elim, arith}
+use Rattle.model.specs.Least.{none, key, tab}
 use Rattle.model.specs.Network.{Network}
 use Rattle.model.specs.Graph.{board, waiting}
-use Rattle.model.proofs.Boards.{waiting_listed}
+use Rattle.model.proofs.Boards.{nobody, waiting_listed}
 use Rattle.model.proofs.Tab.{tab_is}
 use Rattle.model.proofs.ByCases.{by_lt}
 use Rattle.sorting.specs.Order.{Each}
@@ -23,6 +18,10 @@ Stands l i d = (j : ℕ) × (j < i) × (get_or l j 0 ≡ d)
 pub record Waited (net : Network) (l : List ℕ) (i : ℕ) (heads part : List ℕ) : Type 0 where
   pub first : Each (Head net (Stands l i)) heads
   pub entered : Each (Entered (waiting net) (Stands l i)) part
+
+-- before the first turn
+pub waited_none : (net : Network) (l : List ℕ) {heads part : List ℕ} → Each (λ b x. x ≡ none) heads → Waited net l 0 heads part
+waited_none net l empty = record { first = λ b h. nobody (empty b h) (λ d q w. omega (arith, w.1)); entered = λ c h s. absurd (omega (arith, s)) }
 
 module _ {net : Network} {k : ℕ} {l : List ℕ} (o : Departed net k l) where
   module _ {i : ℕ} (h : i < k) where

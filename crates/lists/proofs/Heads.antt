@@ -1,13 +1,7 @@
 -- What a sweep of departures from the last to the first knows of those that it has passed: the first of each board, the entries
 -- that it has filled, and their list. Assumes nothing.
-use mathlib.Core.Path.{◌≡◌, refl, ◌∙◌, sym, ap}
-use mathlib.Core.List.{List}
-use mathlib.Core.Logic.{◌⊎◌, ⊎_elim}
-use Prim.Native.Nat.{ℕ, ◌+◌, ◌<◌}
-use native.Mathlib.Omega.{arith}
+use Rattle.std.proofs.Common.{◌≡◌, ℕ, ◌+◌, ◌<◌, ◌⊎◌, List, length, set, sym, refl, ap, ◌∙◌, ⊎_elim, arith, length-set, get_or-set_same}
 use Rattle.std.proofs.lemmas.Grind.{common_steps}
-use lib.ListN.{length, set, length-set}
-use lib.Seq.{get_or-set_same}
 use Rattle.model.specs.Least.{key}
 use Rattle.model.specs.Network.{Network, Sound}
 use Rattle.model.specs.Graph.{board}

@@ -1,10 +1,6 @@
 -- What a margin asks of its own numbers: when each refusal is given, and what it tells where they pass.
 -- Assumes nothing.
-use mathlib.Core.Path.{◌≡◌, refl, sym, ◌∙◌}
-use mathlib.Core.Bool.{not, ◌||◌}
-use mathlib.Core.List.{List, []}
-use Prim.Native.Nat.{ℕ, ◌<◌}
-use lib.Dec.{leb, eqb}
+use Rattle.std.proofs.Common.{◌≡◌, ℕ, ◌<◌, not, ◌||◌, eqb, leb, List, [], sym, refl, ◌∙◌}
 use Rattle.refusals.specs.Answers.{refuse_if, Passed, Refused}
 use Rattle.timetable.specs.File.{connections, from, to}
 use Rattle.timetable.proofs.Tests.{at_most, unequal, either}

@@ -1,8 +1,5 @@
 -- A margin by its parts. Assumes nothing.
-use mathlib.Core.Path.{◌≡◌, refl, sym, ◌∙◌}
-use mathlib.Core.List.{List, []}
-use Prim.Native.Nat.{ℕ}
-use native.Mathlib.Omega.{arith}
+use Rattle.std.proofs.Common.{◌≡◌, ℕ, List, [], sym, refl, ◌∙◌, arith}
 use Rattle.refusals.specs.Answers.{Answer, accepted, refused, or_else, answering, Verdict, Passed, Refused}
 use Rattle.timetable.specs.File.{transfer_time, to}
 use lib.IntN.{ℤ}

@@ -10,13 +10,16 @@ ghost use Rattle.model.specs.Shown.{shown};
 ghost use Rattle.margins.specs.Margin.{MarginAnswered};
 
 use graph::{Network, Shown};
+use model::{Change, Lent};
 use refusals::{Reason, Refusal};
 use timetable::Timetable;
 
 // Refusals 13 and 17.
-fn change_verdict(timetable: Timetable, connection: u16, next: u16) -> Result<(), Refusal>
-    ensures { verdict_of result ≡ asked_verdict [] (margin_asks timetable.entry.file.now connection next) }
+#[tactic(auto, using(crate::proofs::Asked::change_unknown, crate::proofs::Asked::change_apart, crate::proofs::Asked::change_passes))]
+fn change_verdict(timetable: Timetable, change: Change) -> Result<(), Refusal>
+    ensures { verdict_of result ≡ asked_verdict [] (margin_asks timetable.entry.file.now change.connection change.next) }
 {
+    let Change { connection, next } = change;
     if timetable.connections <= connection as usize {
         return Err(Refusal(Reason::UnknownConnection, 0));
     }
@@ -30,6 +33,7 @@ fn change_verdict(timetable: Timetable, connection: u16, next: u16) -> Result<()
 }
 
 // Departure minus arrival minus transfer time.
+#[tactic(auto, using(crate::proofs::Signed::diff_fits, crate::proofs::Signed::diff2_fits, crate::proofs::Signed::diff2_is))]
 fn minutes(departure: u16, arrival: u16, transfer: u16) -> i32
     ensures { result ≡ margin_between departure arrival transfer }
 {
@@ -37,40 +41,39 @@ fn minutes(departure: u16, arrival: u16, transfer: u16) -> i32
 }
 
 // The minutes of a change between two connections.
-fn change_minutes(network: Network, connection: u16, next: u16) -> i32
-    requires { (connection < network.shown.timetable.connections) × (next < network.shown.timetable.connections) }
-    ensures { result ≡ margin_of (shown network.entry.shown.timetable.file.now network.entry.shown.graph.now) connection next }
+#[tactic(auto, using(crate::proofs::Signed::read_back, crate::proofs::Margins::margin_read))]
+fn change_minutes(network: Network, change: Change) -> i32
+    requires { (change.connection < network.shown.timetable.connections) × (change.next < network.shown.timetable.connections) }
+    ensures { result ≡ margin_of (shown network.entry.shown.timetable.file.now network.entry.shown.graph.now) change.connection change.next }
 {
-    let c = connection as usize;
+    let c = change.connection as usize;
     let stop = network.shown.timetable.to(c);
     let transfer = network.shown.timetable.transfer_time(stop as usize);
-    let departure = network.shown.departure(next as usize);
+    let departure = network.shown.departure(change.next as usize);
     let arrival = network.shown.arrival(c);
     minutes(departure, arrival, transfer)
 }
 
 // The margin of a change, once the timetable and both areas have passed.
-fn margin_by(network: Network, connection: u16, next: u16) -> Result<i32, Refusal>
+#[tactic(auto, using(crate::proofs::Signed::read_back, crate::proofs::Asked::change_passed))]
+fn margin_by(network: Network, change: Change) -> Result<i32, Refusal>
     ensures { told result
-        ≡ answering (asked_verdict [] (margin_asks network.entry.shown.timetable.file.now connection next))
-        (margin_of (shown network.entry.shown.timetable.file.now network.entry.shown.graph.now) connection next) }
+        ≡ answering (asked_verdict [] (margin_asks network.entry.shown.timetable.file.now change.connection change.next))
+        (margin_of (shown network.entry.shown.timetable.file.now network.entry.shown.graph.now) change.connection change.next) }
 {
-    change_verdict(network.shown.timetable, connection, next)?;
-    Ok(change_minutes(network, connection, next))
+    change_verdict(network.shown.timetable, change)?;
+    Ok(change_minutes(network, change))
 }
 
-// The margin of a change from `connection` to `next`.
-pub fn margin(
-    file: &[u8],
-    notices: &[u16],
-    graph: &[u16],
-    connection: u16,
-    next: u16,
-) -> Result<i32, Refusal>
-    ensures { MarginAnswered (day_of file.now) (lent notices.now graph.now) connection next
+// The margin of a change.
+pub fn margin(file: &[u8], areas: Lent, change: Change) -> Result<i32, Refusal>
+    ensures { MarginAnswered (day_of file.now) (lent areas.entry.notices.now areas.entry.graph.now) change.connection change.next
         (told result) }
 {
-    let timetable = graph::examine(file, notices, graph)?;
-    let shown = Shown { timetable, graph };
-    margin_by(Network { shown }, connection, next)
+    let timetable = graph::examine(file, areas)?;
+    let shown = Shown {
+        timetable,
+        graph: areas.graph,
+    };
+    margin_by(Network { shown }, change)
 }

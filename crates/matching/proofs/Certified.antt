@@ -1,12 +1,5 @@
 -- An area whose times stand and whose lists are right is the graph area, and conversely. Assumes nothing.
-use mathlib.Core.Path.{◌≡◌, sym, ◌∙◌, ap}
-use mathlib.Core.Logic.{⊎_elim}
-use mathlib.Core.Bool.{Bool, true, false}
-use mathlib.Core.List.{List, ◌++◌, append_assoc}
-use Prim.Native.Nat.{ℕ, ◌+◌, ◌*◌, ◌-◌, ◌<◌, ◌≤◌}
-use native.Mathlib.Omega.{arith}
-use lib.ListN.{length, get_or, take}
-use lib.Seq.{ext_get_or, get_or-take, take-take, take_at, length-take-le}
+use Rattle.std.proofs.Common.{◌≡◌, ℕ, ◌+◌, ◌-◌, ◌*◌, ◌<◌, ◌≤◌, Bool, true, false, List, ◌++◌, length, get_or, take, sym, ap, ◌∙◌, ⊎_elim, append_assoc, arith, length-take-le, get_or-take, take-take, take_at, ext_get_or}
 use Rattle.timetable.specs.File.{connections}
 use Rattle.model.specs.Day.{day_of, lent}
 use Rattle.model.specs.Least.{tab}
@@ -85,7 +78,7 @@ module _ (net : Network) (g : List ℕ) where
         ext_get_or 0 (take size g) (graph_of net) (long ∙ sym (length_graph net)) (λ i l. let h : i < size = omega arith in get_or-take size g i 0 h ∙ entry i h)
 
 -- what tells of the lists of an area at whose front the expected times stand tells of the area
-module _ (f notices g : List ℕ) (s n : ℕ) (o : Opened f s n) (k : Standing (connections f) notices)
+module _ (f notices g : List ℕ) (s n : ℕ) (o : Opened f s n) {C : ℕ} (k : Standing C notices)
     (front : take (2 * n) g ≡ times (network_of (day_of f) (rows_of notices)) n) where
   pub judged : (r : Bool) → graph_length f ≤ length g → Tells r (ListsRight (shown f g) g) → r ≡ same (take (graph_length f) g) (graph_for (day_of f) (rows_of notices))
   judged r room tells =

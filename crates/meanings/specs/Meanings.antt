@@ -1,6 +1,9 @@
 -- What a first word and the numbers after it ask for. A word is the list of its bytes. Assumes nothing.
 use Rattle.std.specs.Prelude.{cond, Option, Some, None, List, [], ◌∷◌, ℕ}
 use Rattle.model.specs.Drawn.{same}
+use Rattle.model.specs.Notices.{notice}
+use Rattle.model.specs.declared.Change.{Change}
+use Rattle.model.specs.declared.Request.{Request}
 use Rattle.meanings.specs.declared.Command.{Command}
 use Rattle.meanings.specs.declared.Command.TheVariants.{Post, Withdraw, Enquire, Margin, Why}
 use Rattle.meanings.specs.declared.Numbers.{Numbers}
@@ -31,10 +34,18 @@ with_number (Some (Two a b)) (Some n) = Some (Three a b n)
 with_number (Some (Three a b c)) (Some n) = None
 with_number None (Some n) = None
 
+-- an enquiry's numbers
+abbrev pub request : ℕ → ℕ → ℕ → Request
+request a b t = record { from = a; to = b; time = t }
+
+-- a margin's numbers
+abbrev pub change : ℕ → ℕ → Change
+change c d = record { connection = c; next = d }
+
 -- the command of a first word and the numbers after it: w number; why connection; m connection connection;
 -- p number connection delay; q from to time
 unfoldable pub asked : List ℕ → Numbers → Option Command
 asked word Zero = None
 asked word (One a) = cond (same word word_w) (Some (Withdraw a)) (cond (same word word_why) (Some (Why a)) None)
-asked word (Two a b) = cond (same word word_m) (Some (Margin a b)) None
-asked word (Three a b c) = cond (same word word_p) (Some (Post a b c)) (cond (same word word_q) (Some (Enquire a b c)) None)
+asked word (Two a b) = cond (same word word_m) (Some (Margin (change a b))) None
+asked word (Three a b c) = cond (same word word_p) (Some (Post (notice a b c))) (cond (same word word_q) (Some (Enquire (request a b c))) None)

@@ -4,13 +4,15 @@
 ghost use Rattle.std.specs.Prelude.{◌≡◌};
 ghost use Rattle.meanings.specs.Meanings.{with_number, asked};
 
+use model::{Change, Notice, Request};
+
 // What a line asks for.
 #[derive(Clone, Copy, Debug, PartialEq, Eq)]
 pub enum Command {
-    Post(u16, u16, u16),
+    Post(Notice),
     Withdraw(u16),
-    Enquire(u16, u16, u16),
-    Margin(u16, u16),
+    Enquire(Request),
+    Margin(Change),
     Why(u16),
 }
 
@@ -36,16 +38,26 @@ pub fn with_number(numbers: Numbers, number: u16) -> Option<Numbers>
 }
 
 // The command of a first word and the numbers after it.
-#[tactic(auto, using(crate::proofs::Comparison::same_words), unfolding(crate::specs::Meanings::asked))]
+#[tactic(auto, using(crate::proofs::Comparison::words), unfolding(crate::specs::Meanings::asked, model::specs::Drawn::same))]
 pub fn asked(word: &[u8], numbers: Numbers) -> Option<Command>
     ensures { result ≡ asked word.now numbers }
 {
-    match numbers {
-        Numbers::One(a) if word == b"w".as_slice() => Some(Command::Withdraw(a)),
-        Numbers::One(a) if word == b"why".as_slice() => Some(Command::Why(a)),
-        Numbers::Two(a, b) if word == b"m".as_slice() => Some(Command::Margin(a, b)),
-        Numbers::Three(a, b, c) if word == b"p".as_slice() => Some(Command::Post(a, b, c)),
-        Numbers::Three(a, b, c) if word == b"q".as_slice() => Some(Command::Enquire(a, b, c)),
+    match (word, numbers) {
+        (b"w", Numbers::One(a)) => Some(Command::Withdraw(a)),
+        (b"why", Numbers::One(a)) => Some(Command::Why(a)),
+        (b"m", Numbers::Two(connection, next)) => {
+            Some(Command::Margin(Change { connection, next }))
+        }
+        (b"p", Numbers::Three(number, connection, delay)) => Some(Command::Post(Notice {
+            number,
+            connection,
+            delay,
+        })),
+        (b"q", Numbers::Three(from, to, time)) => Some(Command::Enquire(Request {
+            from,
+            to,
+            time,
+        })),
         _ => None,
     }
 }

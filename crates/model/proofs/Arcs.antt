@@ -1,9 +1,6 @@
 -- What waiting and transfer entries say in terms of places in the order of departures, and that every arc leads forward
 -- (document 01). Assumes nothing.
-use mathlib.Core.Path.{◌≡◌, sym}
-use mathlib.Core.Logic.{inl, inr, ⊎_elim}
-use Prim.Native.Nat.{ℕ, suc, ◌<◌, ◌≤◌}
-use native.Mathlib.Omega.{arith}
+use Rattle.std.proofs.Common.{◌≡◌, ℕ, suc, ◌<◌, ◌≤◌, sym, inl, inr, ⊎_elim, arith}
 use Rattle.model.specs.Least.{none, rank}
 use Rattle.model.specs.Network.{Network, Sound}
 use Rattle.model.specs.Graph.{board, waiting, transfer, Node, Arc, connection, aboard, wait, change, Forward}

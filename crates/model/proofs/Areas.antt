@@ -1,14 +1,7 @@
 -- Rows and the notice area: what is written is read back, and lengths. Assumes nothing.
-use mathlib.Core.Path.{◌≡◌, refl, sym, ap, ◌∙◌}
-use mathlib.Core.Bool.{true, ◌&&◌}
-use mathlib.Core.List.{List, [], ◌∷◌, ◌++◌, append_assoc}
-use Prim.Native.Nat.{ℕ, zero, suc, ◌+◌, ◌*◌, ◌-◌, ◌≤◌}
-use native.Mathlib.Nat.{add-zero}
-use native.Mathlib.Omega.{arith}
-use borrow.Author.Tests.{eqb-true}
-use lib.Dec.{eqb}
-use lib.ListN.{length, get_or, take, drop, replicate, length-append, length-take, length-drop, length-replicate, replicate-append-replicate, take-append-drop, get_or-append}
-use lib.Seq.{drop-cons, take_at, drop_at, drop-drop, drop-append-le, get_or-drop}
+use Rattle.std.proofs.Common.{◌≡◌, ℕ, zero, suc, ◌+◌, ◌-◌, ◌*◌, ◌≤◌, true, ◌&&◌, eqb, List, [], ◌∷◌, ◌++◌, length, get_or, take, drop, replicate, sym, refl, ap, ◌∙◌, append_assoc, add-zero, arith, length-append, length-drop, take-append-drop, length-take, get_or-drop, drop-cons, drop-drop, take_at, drop_at, eqb-true}
+use lib.ListN.{length-replicate, replicate-append-replicate, get_or-append}
+use lib.Seq.{drop-append-le}
 use Rattle.model.specs.Notices.{notice, width, room, notices_length, unused_row, numbers_in, row_at, flat, cut, area_of, count_in, rows_of, unused_of, unused_right, Standing}
 use Rattle.model.specs.declared.Notice.{Notice}
 use Rattle.model.proofs.ByCases.{and_left, and_right}

@@ -1,12 +1,6 @@
 -- What it tells that a posting or a withdrawal passes. Assumes nothing.
-use mathlib.Core.Path.{◌≡◌}
-use mathlib.Core.Bool.{true, false, not, ◌&&◌}
-use mathlib.Core.List.{List}
-use Prim.Native.Nat.{ℕ, ◌≤◌, ◌<◌}
-use native.Mathlib.Omega.{arith}
-use borrow.Author.Tests.{ne_eqb, lt-leb, le-leb, leb-true, leb-false, eqb-false, not-false}
-use lib.ListN.{length}
-use lib.Dec.{leb, eqb}
+use Rattle.std.proofs.Common.{◌≡◌, ℕ, ◌<◌, ◌≤◌, true, false, not, ◌&&◌, eqb, leb, List, length, arith, ne_eqb, le-leb, leb-false, leb-true}
+use borrow.Author.Tests.{lt-leb, eqb-false, not-false}
 use Rattle.refusals.specs.Answers.{refuse_if, or_else, Passed}
 use Rattle.refusals.specs.RefusalNumber as refusal
 use Rattle.model.specs.Notices.{notice, room, least_delay, most_posted, most_standing, stands, stands_elsewhere, entered, WellFormed}

@@ -1,9 +1,5 @@
 -- How to go by cases on an order or a test, and what joined tests mean. Assumes nothing.
-use mathlib.Core.Path.{◌≡◌, refl, sym}
-use mathlib.Core.Logic.{◌⊎◌, inl, inr, ⊎_elim}
-use mathlib.Core.Bool.{Bool, true, false}
-use Prim.Native.Nat.{ℕ, suc, ◌<◌, ◌≤◌}
-use native.Mathlib.Omega.{arith}
+use Rattle.std.proofs.Common.{◌≡◌, ℕ, suc, ◌<◌, ◌≤◌, Bool, true, false, ◌⊎◌, sym, refl, inl, inr, ⊎_elim, arith}
 pub use Rattle.timetable.proofs.Tests.{by_lt, by_eq, by_bool, and_left, and_right, and_both, or_cases, both_fail, or_left, or_right}
 
 -- below n + 1 is below n, or n

@@ -1,11 +1,7 @@
 -- Cases worked by hand from the rules, on example J and on small timetables of their own, as rows of one table under one claim. Each
 -- row has what the definitions of the operations give and the numbers that were worked out. Assumes nothing.
-use mathlib.Core.Path.{◌≡◌, refl}
-use mathlib.Core.Bool.{Bool, true, cond}
-use mathlib.Core.List.{List, [], ◌∷◌, ◌++◌}
-use Prim.Native.Nat.{ℕ, zero, suc, ◌*◌}
+use Rattle.std.proofs.Common.{◌≡◌, ℕ, zero, suc, ◌*◌, Bool, true, cond, List, [], ◌∷◌, ◌++◌, take, replicate, refl}
 use lib.IntN.{ℤ, pos, negsuc}
-use lib.ListN.{take, replicate}
 use Rattle.refusals.specs.Answers.{Answer, accepted, refused, first_below}
 use Rattle.timetable.specs.File.{connections, transfer_time, trip, from, to, scheduled_departure, scheduled_arrival, stays_aboard}
 use Rattle.timetable.specs.Check.{header_verdict, stop_verdict, wrong_stops, wrong_trip, wrong_times, wrong_join, connection_verdict, file_verdict}

@@ -1,11 +1,5 @@
 -- What an enquiry's answer means: an answer is the best journey, refusal 30 that there is none. Assumes nothing.
-use mathlib.Core.Path.{◌≡◌, refl, sym}
-use mathlib.Core.Logic.{⊎_elim}
-use mathlib.Core.Bool.{Bool, true, false}
-use mathlib.Core.List.{List, ◌++◌}
-use Prim.Native.Nat.{ℕ}
-use native.Mathlib.Omega.{arith}
-use lib.ListN.{length, drop}
+use Rattle.std.proofs.Common.{◌≡◌, ℕ, Bool, true, false, List, ◌++◌, length, drop, sym, refl, ⊎_elim, arith}
 use Rattle.timetable.specs.File.{stops}
 use Rattle.refusals.specs.Answers.{Verdict, Passed, Refused}
 use Rattle.refusals.specs.RefusalNumber as refusal

@@ -1,14 +1,6 @@
 -- An operation on the fronts of its areas gives what it gives on the whole areas, and what lies behind the fronts stays.
 -- Assumes nothing.
-use mathlib.Core.Path.{◌≡◌, refl, sym, ◌∙◌, ap, ap₂}
-use mathlib.Core.Logic.{⊎_elim}
-use mathlib.Core.Bool.{Bool, true, false}
-use mathlib.Core.List.{List, [], ◌++◌, reverse, append_assoc}
-use Prim.Native.Nat.{ℕ, ◌<◌, ◌≤◌, min}
-use native.Mathlib.Omega.{arith}
-use borrow.Author.Tests.{lt-ltb, le-ltb}
-use lib.Dec.{ltb}
-use lib.ListN.{length, take, drop, length-take, take-append-drop}
+use Rattle.std.proofs.Common.{◌≡◌, ℕ, ◌<◌, ◌≤◌, min, Bool, true, false, ltb, List, [], ◌++◌, reverse, length, take, drop, sym, refl, ap, ◌∙◌, ap₂, ⊎_elim, append_assoc, arith, take-append-drop, length-take, le-ltb, lt-ltb}
 use lib.Seq.{take-append-le, drop-append-le}
 use Rattle.refusals.specs.Answers.{accepted, or_else, answering, Verdict, Passed, Refused}
 use Rattle.timetable.specs.File.{stops, connections}

@@ -1,10 +1,6 @@
 -- Document 01's starred instances on example J, as rows of one table under one claim, through the definitions of the
 -- operations. Each row has what the definitions give and what document 01 says. Assumes nothing.
-use mathlib.Core.Path.{◌≡◌, refl}
-use mathlib.Core.Bool.{Bool, true, ◌&&◌}
-use mathlib.Core.List.{List, [], ◌∷◌}
-use Prim.Native.Nat.{ℕ, ◌*◌}
-use lib.ListN.{take, drop, replicate}
+use Rattle.std.proofs.Common.{◌≡◌, ℕ, ◌*◌, Bool, true, ◌&&◌, List, [], ◌∷◌, take, drop, replicate, refl}
 use Rattle.refusals.specs.Answers.{Answer, accepted, refused, first_below}
 use Rattle.timetable.specs.File.{transfer_time, trip, from, to, scheduled_departure, scheduled_arrival, stays_aboard}
 use Rattle.timetable.specs.Check.{header_verdict, stop_verdict, wrong_stops, wrong_trip, wrong_times, wrong_join, connection_verdict, file_verdict}

@@ -1,14 +1,9 @@
 -- What predecessors mean: which connections end a valid journey, that following them gives one, that it is the answer to an
 -- enquiry, and that there is no other. Assumes nothing.
-use mathlib.Core.Path.{◌≡◌, refl, sym, ◌∙◌, ap}
-use mathlib.Core.Logic.{◌↔◌, ⊎_elim}
-use mathlib.Core.Bool.{true, false, not, ◌&&◌, true≢false, false≢true}
-use mathlib.Core.List.{List, [], ◌∷◌}
-use Prim.Native.Nat.{ℕ, zero, suc, ◌<◌, ◌≤◌}
-use native.Mathlib.Omega.{arith}
-use lib.ListN.{length, get_or, get_or-eq_default}
-use lib.Dec.{eqb}
-use borrow.Author.Tests.{lt-ltb, ltb-true, eq-eqb, ne_eqb, eqb-true, not-true}
+use Rattle.std.proofs.Common.{◌≡◌, ℕ, zero, suc, ◌<◌, ◌≤◌, true, false, not, ◌&&◌, eqb, ◌↔◌, List, [], ◌∷◌, length, get_or, sym, refl, ap, ◌∙◌, ⊎_elim, true≢false, arith, ltb-true, lt-ltb, eq-eqb, ne_eqb, eqb-true}
+use mathlib.Core.Bool.{false≢true}
+use lib.ListN.{get_or-eq_default}
+use borrow.Author.Tests.{not-true}
 use Rattle.model.specs.Least.{none, key, Found, Least, rank}
 use Rattle.model.specs.Network.{Network, Sound}
 use Rattle.model.specs.Journeys.{can_be_first, can_follow, Ends, first, next, Valid, stay, travel, arrives, NotAfter, stops, lower, beyond, Best, Unreachable}

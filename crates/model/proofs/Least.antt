@@ -1,11 +1,5 @@
 -- The first by time and number: what it is, and that it is the only one. Assumes nothing.
-use mathlib.Core.Path.{◌≡◌, refl, sym, ◌∙◌}
-use mathlib.Core.Logic.{inl, inr, ⊎_elim}
-use mathlib.Core.Bool.{Bool, true, false, cond, ◌&&◌, ◌||◌, true≢false}
-use Prim.Native.Nat.{ℕ, zero, suc, ◌<◌, ◌≤◌}
-use native.Mathlib.Omega.{arith}
-use borrow.Author.Tests.{lt-ltb, le-ltb, eq-eqb, ne_eqb}
-use lib.Dec.{ltb, eqb}
+use Rattle.std.proofs.Common.{◌≡◌, ℕ, zero, suc, ◌<◌, ◌≤◌, Bool, true, false, cond, ◌&&◌, ◌||◌, eqb, ltb, sym, refl, ◌∙◌, inl, inr, ⊎_elim, true≢false, arith, le-ltb, lt-ltb, eq-eqb, ne_eqb}
 use Rattle.model.specs.Least.{none, key, least_below, Least}
 use Rattle.model.proofs.ByCases.{by_lt, by_bool, one_more}
 

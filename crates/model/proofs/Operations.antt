@@ -1,7 +1,5 @@
 -- How an operation ends, by the verdicts of its parts. Assumes nothing.
-use mathlib.Core.Path.{◌≡◌}
-use mathlib.Core.List.{List, []}
-use Prim.Native.Nat.{ℕ}
+use Rattle.std.proofs.Common.{◌≡◌, ℕ, List, []}
 use Rattle.refusals.specs.Answers.{accepted, refused, or_else, Passed, Refused}
 use Rattle.timetable.specs.Check.{file_verdict}
 use Rattle.timetable.specs.Accepted.{Opened}

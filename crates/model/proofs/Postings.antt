@@ -1,10 +1,6 @@
 -- What an accepted posting does, and that a notice posted again as it stands changes nothing. Assumes nothing.
-use mathlib.Core.Path.{◌≡◌, refl, sym, ap, ap₂, ◌∙◌}
-use mathlib.Core.Bool.{true, false}
-use mathlib.Core.List.{List, [], Memᴰ}
-use Prim.Native.Nat.{ℕ, suc, ◌≤◌}
-use native.Mathlib.Omega.{arith}
-use lib.ListN.{length}
+use Rattle.std.proofs.Common.{◌≡◌, ℕ, suc, ◌≤◌, true, false, List, [], length, sym, refl, ap, ◌∙◌, ap₂, arith}
+use mathlib.Core.List.{Memᴰ}
 use Rattle.refusals.specs.Answers.{accepted, Verdict, Passed, Refused}
 use Rattle.timetable.specs.File.{connections}
 use Rattle.model.specs.Notices.{notice, most_posted, stands, stands_elsewhere, entered, WellFormed}

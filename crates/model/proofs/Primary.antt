@@ -1,14 +1,8 @@
 -- The primary delay of a connection: which of two delays prevails, which notice gives it, and that the order of the notices has no
 -- meaning. Assumes nothing.
-use mathlib.Core.Path.{◌≡◌, refl, sym, ◌∙◌, ap}
-use mathlib.Core.Logic.{◌⊎◌, inl, inr, ◌↔◌, ⊎_elim}
-use mathlib.Core.Bool.{true, false, ◌&&◌}
+use Rattle.std.proofs.Common.{◌≡◌, ℕ, ◌<◌, ◌≤◌, true, false, ◌&&◌, eqb, ltb, ◌⊎◌, ◌↔◌, List, [], ◌∷◌, sym, refl, ap, ◌∙◌, inl, inr, ⊎_elim, arith, ltb-true, le-ltb, lt-ltb, eq-eqb, ne_eqb, eqb-true}
 use mathlib.Core.List.Memᴰ
-use mathlib.Core.List.{List, [], ◌∷◌, Memᴰ}
-use Prim.Native.Nat.{ℕ, ◌<◌, ◌≤◌}
-use native.Mathlib.Omega.{arith}
-use borrow.Author.Tests.{eq-eqb, ne_eqb, eqb-true, ltb-true, lt-ltb, le-ltb}
-use lib.Dec.{ltb, eqb}
+use mathlib.Core.List.{Memᴰ}
 use Rattle.timetable.proofs.Tests.{below, either, only_if}
 use Rattle.model.specs.declared.PrimaryDelay.{PrimaryDelay}
 use Rattle.model.specs.Notices.{most_standing, Ascending}

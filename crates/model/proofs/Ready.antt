@@ -1,10 +1,6 @@
 -- What accepted areas give: a sound network, and its entries in the graph area. Assumes nothing.
-use mathlib.Core.Path.{◌≡◌, sym, ◌∙◌, ap}
-use mathlib.Core.List.{List, ◌++◌}
-use Prim.Native.Nat.{ℕ, ◌+◌, ◌<◌, ◌≤◌}
-use native.Mathlib.Omega.{arith}
+use Rattle.std.proofs.Common.{◌≡◌, ℕ, ◌+◌, ◌<◌, ◌≤◌, List, ◌++◌, length, take, drop, sym, ap, ◌∙◌, arith, length-append, take-append-drop}
 use borrow.Author.Tests.{not-false}
-use lib.ListN.{length, take, drop, length-append, take-append-drop}
 use Rattle.timetable.specs.File.{connections}
 use Rattle.refusals.specs.Answers.{accepted, refused, Passed, Refused}
 use Rattle.timetable.specs.Accepted.{Opened}

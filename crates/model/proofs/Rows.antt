@@ -1,15 +1,8 @@
 -- The check of a notice area (refusal 23): it passes the areas of well-formed notices, whatever it passes is such an area, and
 -- where it refuses it names the first wrong row. Assumes nothing.
-use mathlib.Core.Path.{◌≡◌, refl, sym, ap, ap₂, ◌∙◌}
-use mathlib.Core.Logic.{◌⊎◌, inl, inr, ⊎_elim}
-use mathlib.Core.Bool.{Bool, true, false, cond, not, ◌&&◌, true≢false}
-use mathlib.Core.List.{List, [], ◌∷◌, ◌++◌}
-use Prim.Native.Nat.{ℕ, zero, suc, ◌+◌, ◌*◌, ◌-◌, ◌≤◌, ◌<◌}
-use native.Mathlib.Omega.{arith}
-use borrow.Author.Tests.{lt-ltb, le-ltb, le-leb, ltb-true, ltb-false, leb-true, not-false}
-use lib.Dec.{ltb, leb}
-use lib.ListN.{length, drop, replicate, get_or-append}
-use lib.Seq.{drop-drop}
+use Rattle.std.proofs.Common.{◌≡◌, ℕ, zero, suc, ◌+◌, ◌-◌, ◌*◌, ◌<◌, ◌≤◌, Bool, true, false, cond, not, ◌&&◌, ltb, leb, ◌⊎◌, List, [], ◌∷◌, ◌++◌, length, drop, replicate, sym, refl, ap, ◌∙◌, ap₂, inl, inr, ⊎_elim, true≢false, arith, drop-drop, ltb-false, ltb-true, le-ltb, lt-ltb, le-leb, leb-true}
+use borrow.Author.Tests.{not-false}
+use lib.ListN.{get_or-append}
 use Rattle.refusals.specs.Answers.{refuse_if, or_else, Verdict, Passed, Refused}
 use Rattle.model.specs.Notices.{width, room, notices_length, least_delay, most_standing, unused_row, row_at, flat, cut, area_of, count_in, rows_of, unused_of, stands_right, unused_right, rows_from, standing_verdict, unused_verdict, rows_verdict, Within, Ascending, WellFormed}
 use Rattle.model.specs.declared.Notice.{Notice}

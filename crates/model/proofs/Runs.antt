@@ -1,15 +1,8 @@
 -- Runs and the register: every call answers as the register does and leaves its areas, and the claim about whole runs.
 -- Assumes nothing.
-use mathlib.Core.Path.{◌≡◌, refl, sym, ap, ap₂, ◌∙◌}
-use mathlib.Core.Logic.{◌⊎◌, inl, inr, ⊎_elim}
-use mathlib.Core.Bool.{Bool, true, false, not, ◌&&◌, false≢true}
-use mathlib.Core.List.{List, [], ◌∷◌, ◌++◌}
-use Prim.Native.Nat.{ℕ, suc, ◌*◌, ◌-◌, ◌≤◌, ◌<◌}
-use native.Mathlib.Omega.{arith}
-use borrow.Author.Tests.{leb-true, leb-false, eqb-false, not-false}
-use lib.Dec.{leb, eqb}
-use lib.ListN.{length, drop, length-append}
-use lib.Seq.{drop_at, take_at}
+use Rattle.std.proofs.Common.{◌≡◌, ℕ, suc, ◌-◌, ◌*◌, ◌<◌, ◌≤◌, Bool, true, false, not, ◌&&◌, eqb, leb, ◌⊎◌, List, [], ◌∷◌, ◌++◌, length, drop, sym, refl, ap, ◌∙◌, ap₂, inl, inr, ⊎_elim, arith, length-append, take_at, drop_at, leb-false, leb-true}
+use mathlib.Core.Bool.{false≢true}
+use borrow.Author.Tests.{eqb-false, not-false}
 use Rattle.refusals.specs.Answers.{Answer, accepted, refused, refuse_if, answering, Verdict, Passed, Refused}
 use Rattle.timetable.specs.File.{stops, connections}
 use Rattle.timetable.specs.Check.{file_verdict, counts_of}

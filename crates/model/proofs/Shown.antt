@@ -1,14 +1,7 @@
 -- A graph area that can be read without the notices: its entries, and that its arcs lead forward; and that what it shows is the
 -- network of the notices that stand, wherever it matters. Assumes nothing.
-use mathlib.Core.Path.{◌≡◌, refl, sym, ◌∙◌, ap}
-use mathlib.Core.Logic.{⊎_elim}
-use mathlib.Core.Bool.{Bool, true, false, ◌&&◌}
-use mathlib.Core.List.{List, ◌++◌, append_assoc}
-use Prim.Native.Nat.{ℕ, zero, suc, ◌+◌, ◌*◌, ◌<◌, ◌≤◌}
-use native.Mathlib.Omega.{arith}
-use borrow.Author.Tests.{ne_eqb, eqb-false}
-use lib.ListN.{length, take, drop, length-append}
-use lib.Seq.{take-suc}
+use Rattle.std.proofs.Common.{◌≡◌, ℕ, zero, suc, ◌+◌, ◌*◌, ◌<◌, ◌≤◌, Bool, true, false, ◌&&◌, List, ◌++◌, length, take, drop, sym, refl, ap, ◌∙◌, ⊎_elim, append_assoc, arith, length-append, take-suc, ne_eqb}
+use borrow.Author.Tests.{eqb-false}
 use Rattle.timetable.specs.File.{connections}
 use Rattle.refusals.specs.Answers.{Passed}
 use Rattle.model.specs.Least.{none, least_below}

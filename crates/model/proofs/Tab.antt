@@ -1,11 +1,7 @@
 -- The list of what a function gives. Assumes nothing.
-use mathlib.Core.Path.{◌≡◌, refl, ◌∙◌}
-use mathlib.Core.Logic.{⊎_elim}
-use mathlib.Core.List.{List, [], ◌∷◌}
-use Prim.Native.Nat.{ℕ, zero, suc, ◌<◌}
-use native.Mathlib.Omega.{arith}
-use lib.ListN.{length, get_or, length-append, get_or-append}
-use lib.Seq.{get_or_at, ext_get_or}
+use Rattle.std.proofs.Common.{◌≡◌, ℕ, zero, suc, ◌<◌, List, [], ◌∷◌, length, get_or, refl, ◌∙◌, ⊎_elim, arith, length-append, ext_get_or}
+use lib.ListN.{get_or-append}
+use lib.Seq.{get_or_at}
 use Rattle.model.specs.Least.{tab}
 use Rattle.model.proofs.ByCases.{by_last}
 

@@ -1,11 +1,7 @@
 -- Expected times: how a delay is passed on, that times depend on the delays alone, and that the network of an accepted timetable
 -- with notices within their limits is sound. Assumes nothing.
-use mathlib.Core.Path.{◌≡◌, refl, ap}
-use mathlib.Core.Logic.{◌↔◌, ⊎_elim}
-use mathlib.Core.Bool.{true, false}
-use mathlib.Core.List.{List, [], Memᴰ}
-use Prim.Native.Nat.{ℕ, zero, suc, ◌+◌, ◌<◌, ◌≤◌, max}
-use native.Mathlib.Omega.{arith}
+use Rattle.std.proofs.Common.{◌≡◌, ℕ, zero, suc, ◌+◌, ◌<◌, ◌≤◌, max, true, false, ◌↔◌, List, [], refl, ap, ⊎_elim, arith}
+use mathlib.Core.List.{Memᴰ}
 use Rattle.timetable.specs.File.{connections, to, scheduled_departure, scheduled_arrival, stays_aboard}
 use Rattle.timetable.specs.Accepted.{Timetable}
 use Rattle.model.specs.Notices.{most_standing, WellFormed}
@@ -105,10 +101,10 @@ module _ (f : List ℕ) (table : Timetable f) where
   on_time_arrival c h = omega (arith, on_time c h, arrival_late (conditions_of []) c h)
 
 -- the network of a day whose timetable is accepted, with any notices that may stand together
-pub network_sound : (day : Day) → Timetable day.file → (ns : List Notice) → WellFormed (connections day.file) ns → Sound (network_of day ns)
+pub network_sound : (day : Day) → Timetable day.file → (ns : List Notice) → {C : ℕ} → WellFormed C ns → Sound (network_of day ns)
 unfolding network_of
-network_sound day table ns rows =
-    sound_with day.file table (conditions_of ns) (λ c h. primary_most c (connections day.file) 0 ns rows.ascending)
+network_sound day table ns {C} rows =
+    sound_with day.file table (conditions_of ns) (λ c h. primary_most c C 0 ns rows.ascending)
 
 -- the network of a day depends on which notices there are, not on their order
 pub network_same : (day : Day) (ns ms : List Notice) → ((n : Notice) → Memᴰ n ns ↔ Memᴰ n ms) → network_of day ns ≡ network_of day ms

@@ -1,10 +1,6 @@
 -- Verdicts: what a chain of refusals tells, and going by a test. Assumes nothing.
-use mathlib.Core.Path.{◌≡◌, refl, sym}
-use mathlib.Core.Logic.{◌↔◌}
-use mathlib.Core.Bool.{Bool, true, false, cond}
-use Prim.Native.Nat.{ℕ}
+use Rattle.std.proofs.Common.{◌≡◌, ℕ, Bool, true, false, cond, ◌↔◌, sym, refl, arith}
 pub use Rattle.timetable.proofs.Order.{passed_not_refused, else_passed, else_refused}
-use native.Mathlib.Omega.{arith}
 use Rattle.refusals.specs.Answers.{Answer, accepted, refused, refuse_if, or_else, answering, Verdict, Passed, Refused}
 
 -- a refusal by a test that passes

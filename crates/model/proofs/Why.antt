@@ -1,12 +1,6 @@
 -- Why a connection is late: what it gives that nothing is refused, what an answer means, which numbers it refuses with, and that the front
 -- of the notice area decides. Assumes nothing.
-use mathlib.Core.Path.{◌≡◌, sym, ◌∙◌, ap}
-use mathlib.Core.Logic.{◌⊎◌, inl, inr, ⊎_elim}
-use mathlib.Core.List.{List}
-use Prim.Native.Nat.{ℕ, ◌<◌, ◌≤◌}
-use borrow.Author.Tests.{ltb-false, leb-false, le-ltb}
-use lib.Dec.{ltb, leb}
-use lib.ListN.{length, take, drop, take-append-drop}
+use Rattle.std.proofs.Common.{◌≡◌, ℕ, ◌<◌, ◌≤◌, ltb, leb, ◌⊎◌, List, length, take, drop, sym, ap, ◌∙◌, inl, inr, ⊎_elim, take-append-drop, ltb-false, le-ltb, leb-false}
 use Rattle.refusals.specs.Answers.{accepted, refused, refuse_if, or_else, answering, Passed}
 use Rattle.timetable.specs.File.{connections}
 use Rattle.timetable.specs.Accepted.{Timetable}

@@ -1,9 +1,5 @@
 -- What the operations' code knows of areas that were written. Assumes nothing.
-use mathlib.Core.Path.{◌≡◌, ◌∙◌, ap, ap₂}
-use mathlib.Core.List.{List, ◌++◌}
-use Prim.Native.Nat.{ℕ}
-use native.Mathlib.Omega.{arith}
-use lib.ListN.{drop, length-append}
+use Rattle.std.proofs.Common.{◌≡◌, ℕ, List, ◌++◌, drop, ap, ◌∙◌, ap₂, arith, length-append}
 use Rattle.timetable.specs.File.{connections}
 use Rattle.model.specs.Notices.{notices_length, area_of, rows_of, WellFormed, Standing}
 use Rattle.model.specs.declared.Notice.{Notice}

@@ -2,7 +2,8 @@
 // limits by name, each constant the definition of the same name in specs/, and what definitions and code hand on as structs.
 #![tactic(auto)]
 
-// No connection: `none`.
+// No connection: `none`. The areas hold numbers by document 01, so what is read of them is compared with this number: an Option would
+// be made of each number that is read and be undone where it is written.
 pub const NONE: u16 = 65535;
 
 // The numbers of one row of the notice area: `width`.
@@ -35,6 +36,30 @@ pub struct Notice {
     pub number: u16,
     pub connection: u16,
     pub delay: u16,
+}
+
+// What an enquiry asks for: a journey from one stop to another that leaves at a time or later.
+#[derive(Clone, Copy, Debug, PartialEq, Eq)]
+pub struct Request {
+    pub from: u16,
+    pub to: u16,
+    pub time: u16,
+}
+
+// A change: a connection, and the one that the passenger takes next.
+#[derive(Clone, Copy, Debug, PartialEq, Eq)]
+pub struct Change {
+    pub connection: u16,
+    pub next: u16,
+}
+
+// A notice area and a graph area, lent to be read. Areas that are written are parameters of their own: a struct of their `&mut` has to be
+// taken apart before two of them can be lent and put together for the next call, and a contract says what is behind its fields afterwards
+// by place, as `areas.exit.0.now` and `areas.exit.1.0.now`.
+#[derive(Clone, Copy, Debug)]
+pub struct Lent<'a> {
+    pub notices: &'a [u16],
+    pub graph: &'a [u16],
 }
 
 // When a journey arrives, and how many connections it has.

@@ -1,21 +1,13 @@
 -- A number looked for row by row: what is left to look through gives what the whole gave; and what the row found tells.
 -- Assumes nothing.
-use mathlib.Core.Path.{◌≡◌, refl, sym, ◌∙◌}
-use mathlib.Core.Logic.{⊎_elim}
-use mathlib.Core.Bool.{Bool, true, false, cond, not}
-use mathlib.Core.List.{List, [], ◌∷◌}
-use Prim.Native.Nat.{ℕ, zero, suc, ◌+◌, ◌*◌, ◌-◌, ◌≤◌, ◌<◌}
-use native.Mathlib.Nat.{zero-add, sub-zero}
-use native.Mathlib.Omega.{arith}
-use borrow.Author.Tests.{eq-eqb, ne_eqb, eqb-true, lt-ltb, le-ltb}
-use lib.Dec.{ltb, eqb}
-use lib.ListN.{length, drop}
+use Rattle.std.proofs.Common.{◌≡◌, ℕ, zero, suc, ◌+◌, ◌-◌, ◌*◌, ◌<◌, ◌≤◌, Bool, true, false, cond, not, eqb, ltb, List, [], ◌∷◌, length, drop, sym, refl, ◌∙◌, ⊎_elim, zero-add, arith, le-ltb, lt-ltb, eq-eqb, ne_eqb, eqb-true, is_some, Option, Some, None}
+use native.Mathlib.Nat.{sub-zero}
 use Rattle.model.specs.Notices.{width, cut, count_in, rows_of, some, stands, stands_elsewhere, Ascending}
 use Rattle.model.specs.declared.Notice.{Notice}
 use Rattle.model.proofs.ByCases.{by_lt, by_bool}
-use Rattle.model.proofs.Areas.{row_of, cut_more}
+use Rattle.model.proofs.Areas.{row_of, cut_more, count_rows}
 use Rattle.model.proofs.Entering.{stands_below, elsewhere_none}
-use Rattle.notices.specs.Numbered.{row_with}
+use Rattle.notices.specs.Numbered.{row_with, RowFound}
 use Rattle.notices.proofs.NextRow.{one_less, next_row}
 
 -- looking through m rows from the place on
@@ -100,3 +92,10 @@ elsewhere_row C before m c at (suc count) area a h =
     let z : at + width * suc (row_with m ns) ≡ at + width + width * row_with m ns = omega arith in
     rw (e, z) (elsewhere_row C n.number m c (at + width) count area up.2 (omega arith)))
     (by_bool (eqb n.number m)))
+
+-- and exactly if one is found
+pub stands_found : (m : ℕ) (area : List ℕ) (found : Option ℕ) → RowFound area m found → is_some found ≡ stands m (rows_of area)
+stands_found m area None e =
+    sym (stands_row m (rows_of area) ∙ le-ltb (row_with m (rows_of area)) (length (rows_of area)) (omega (arith, count_rows area, e)))
+stands_found m area (Some k) h =
+    sym (stands_row m (rows_of area) ∙ lt-ltb (row_with m (rows_of area)) (length (rows_of area)) (omega (arith, count_rows area, h.0, h.1)))

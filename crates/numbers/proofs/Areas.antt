@@ -1,10 +1,6 @@
 -- Laws of an area of bytes as an area of numbers: how many numbers, which number stands where, what is written is
 -- read again, and what is not written stays; the same of the front of an area. Assumes nothing.
-use mathlib.Core.Path.{◌≡◌, refl, ap}
-use mathlib.Core.List.{List, [], ◌∷◌, ◌++◌}
-use Prim.Native.Nat.{ℕ, zero, suc, ◌+◌, ◌*◌, ◌<◌, ◌≤◌, ◌/◌, ◌%◌, min}
-use native.Mathlib.Omega.{arith}
-use lib.ListN.{length, get_or, take, drop}
+use Rattle.std.proofs.Common.{◌≡◌, ℕ, zero, suc, ◌+◌, ◌*◌, ◌/◌, ◌%◌, ◌<◌, ◌≤◌, min, List, [], ◌∷◌, ◌++◌, length, get_or, take, drop, refl, ap, arith}
 use lib.Seq.{take-nil}
 use Rattle.numbers.specs.Numbers.{byte_size, number_at, numbers_of, over, over_bytes}
 

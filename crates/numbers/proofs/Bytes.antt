@@ -1,13 +1,9 @@
 -- Laws of numbers as bytes: how many, those of two lists, that numbers and bytes give each other, and numbers written into a part of an
 -- area. Assumes nothing.
-use mathlib.Core.Path.{◌≡◌, refl, sym, ◌∙◌}
-use mathlib.Core.List.{List, [], ◌∷◌, ◌++◌, append_assoc, append-nil}
-use Prim.Native.Nat.{ℕ, zero, suc, ◌+◌, ◌-◌, ◌*◌, ◌<◌, ◌≤◌, ◌/◌, ◌%◌}
-use native.Mathlib.Numerals.{add-one, add-two}
-use native.Mathlib.Omega.{arith}
+use Rattle.std.proofs.Common.{◌≡◌, ℕ, zero, suc, ◌+◌, ◌-◌, ◌*◌, ◌/◌, ◌%◌, ◌<◌, ◌≤◌, List, [], ◌∷◌, ◌++◌, length, get_or, take, drop, sym, refl, ◌∙◌, append_assoc, append-nil, add-one, arith, drop_of_length-le, drop-cons}
+use native.Mathlib.Numerals.{add-two}
 use borrow.Rule.Slice.PartMut.{mid_of, put_mid, mid_len, Post-is}
-use lib.ListN.{length, get_or, take, drop, drop_of_length-le}
-use lib.Seq.{drop-cons, sets, sets-eq}
+use lib.Seq.{sets, sets-eq}
 use Rattle.numbers.specs.Numbers.{byte_size, number_at, numbers_of, bytes_of, over_bytes}
 use Rattle.numbers.proofs.Areas.{Bytes}
 

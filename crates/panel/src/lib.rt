@@ -1,4 +1,5 @@
-// The library's operations for C, over areas of bytes, with their answers as numbers.
+// The library's operations for C, over areas of bytes, with their answers as numbers. Where two functions differ by their operation alone, the
+// C interface needs each under its own name, with its own types.
 #![tactic(auto)]
 
 ghost use Rattle.std.specs.Prelude.{◌≡◌};
@@ -13,7 +14,7 @@ ghost use Rattle.fronts.specs.Fronts.{lent_bytes};
 ghost use Rattle.coded_updates.specs.Updated.{coded_by, OutcomeBytes};
 ghost use Rattle.enquiries.specs.Enquired.{EnquiryBytes};
 
-use model::Notice;
+use model::{Change, Notice, Request};
 use updates::Update;
 
 // Checks a file.
@@ -90,7 +91,8 @@ pub extern "C" fn ttg_enquire(
         (numbers_of work.old) (numbers_of journey.old) from to time)
         work.old journey.old result work.new journey.new }
 {
-    enquiries::enquire_bytes(file, notices, graph, work, journey, from, to, time)
+    let request = Request { from, to, time };
+    enquiries::enquire_bytes(file, notices, graph, work, journey, request)
 }
 
 // The margin of a change from connection `ride` to connection `next`.
@@ -100,7 +102,11 @@ pub extern "C" fn ttg_margin(file: &[u8], notices: &[u8], graph: &[u8], ride: u1
         ≡ coded_margin
         (margined (day_of file.now) (lent_bytes notices.now graph.now) ride next) }
 {
-    byte_margins::margin_bytes(file, notices, graph, ride, next)
+    let change = Change {
+        connection: ride,
+        next,
+    };
+    byte_margins::margin_bytes(file, notices, graph, change)
 }
 
 // Why connection `ride` is late: its primary delay and the notice that gives it.

@@ -3,16 +3,7 @@
 -- those that have been offered to it: what it has is reached and one can change from it to c; and it is no higher than any e
 -- visited before, reached and with a change to c, unless a connection still to be visited lies between (it leaves the stop
 -- before c and one could change to it from e): that one holds e's number and will pass it on when its turn comes.
-use mathlib.Core.Path.{◌≡◌, sym, ◌∙◌, ap}
-use mathlib.Core.Logic.{⊎_elim}
-use mathlib.Core.Bool.{Bool, true, false, cond, ◌&&◌, true≢false}
-use mathlib.Core.List.{List}
-use Prim.Native.Nat.{ℕ, suc, ◌+◌, ◌-◌, min, ◌<◌, ◌≤◌}
-use native.Mathlib.Numerals.{add-one}
-use native.Mathlib.Omega.{arith}
-use borrow.Author.Tests.{lt-ltb, ltb-true}
-use lib.ListN.{length, get_or}
-use lib.Seq.{ext_get_or}
+use Rattle.std.proofs.Common.{◌≡◌, ℕ, suc, ◌+◌, ◌-◌, ◌<◌, ◌≤◌, min, Bool, true, false, cond, ◌&&◌, List, length, get_or, sym, ap, ◌∙◌, ⊎_elim, true≢false, add-one, arith, ext_get_or, ltb-true, lt-ltb}
 use Rattle.model.specs.Least.{none, key}
 use Rattle.model.specs.Network.{Network, Sound}
 use Rattle.model.specs.Graph.{board, ready, waiting, transfer}

@@ -1,10 +1,5 @@
 -- The pass over areas that can be read: the turn of a slot of the order, and the end. Assumes nothing.
-use mathlib.Core.Path.{◌≡◌}
-use mathlib.Core.List.{List}
-use Prim.Native.Nat.{ℕ, ◌+◌, ◌<◌, ◌≤◌}
-use native.Mathlib.Omega.{arith}
-use lib.ListN.{length, get_or, take}
-use lib.Seq.{length-take-le, get_or-take}
+use Rattle.std.proofs.Common.{◌≡◌, ℕ, ◌+◌, ◌<◌, ◌≤◌, List, length, get_or, take, arith, length-take-le, get_or-take}
 use Rattle.timetable.specs.File.{connections}
 use Rattle.model.specs.Graph.{departure_in}
 use Rattle.model.specs.Order.{Ordered}

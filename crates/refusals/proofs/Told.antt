@@ -1,6 +1,5 @@
 -- What a call's result says of the verdict that it tells. Assumes nothing.
-use Rattle.std.proofs.Common.{◌≡◌, refl, sym, ◌∙◌, ap, ℕ, Bool, true, false}
-use Rattle.std.specs.Prelude.{Result, Ok, Err, is_err}
+use Rattle.std.proofs.Common.{◌≡◌, ℕ, Bool, true, false, is_err, Ok, Err, Result, sym, refl, ap, ◌∙◌}
 use Rattle.refusals.specs.declared.Refusal.{Refusal}
 use Rattle.refusals.specs.Answers.{Verdict, Passed, is_passed, verdict_of}
 

@@ -1,11 +1,6 @@
 -- What an enquiry asks of its own numbers: when each refusal is given, and what it tells where they pass.
 -- Assumes nothing.
-use mathlib.Core.Path.{◌≡◌, refl, sym}
-use mathlib.Core.Bool.{◌||◌}
-use mathlib.Core.List.{[]}
-use Prim.Native.Nat.{ℕ, ◌<◌, ◌≤◌}
-use native.Mathlib.Omega.{arith}
-use lib.Dec.{ltb, leb}
+use Rattle.std.proofs.Common.{◌≡◌, ℕ, ◌<◌, ◌≤◌, ◌||◌, ltb, leb, [], sym, refl, arith}
 use Rattle.refusals.specs.Answers.{refuse_if, Passed, Refused}
 use Rattle.timetable.proofs.Tests.{below, at_most, either}
 use Rattle.timetable.proofs.Order.{Rule, rule, pass, stop}

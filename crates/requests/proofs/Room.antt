@@ -1,8 +1,5 @@
 -- The areas that an enquiry is lent: when each refusal is given, and what is known where they pass. Assumes nothing.
-use mathlib.Core.Path.{◌≡◌, refl, sym, ◌∙◌}
-use mathlib.Core.List.{List}
-use Prim.Native.Nat.{ℕ, ◌≤◌}
-use lib.ListN.{length}
+use Rattle.std.proofs.Common.{◌≡◌, ℕ, ◌≤◌, List, length, sym, refl, ◌∙◌}
 use Rattle.refusals.specs.Answers.{or_else, Passed, Refused}
 use Rattle.timetable.specs.File.{connections}
 use Rattle.timetable.specs.Accepted.{Timetable}

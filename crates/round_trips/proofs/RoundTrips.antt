@@ -1,10 +1,6 @@
 -- The round trip: the text of a timetable, imported with its transfer times, gives the timetable again. So a timetable is told by its
 -- text and its transfer times, and what an import gives is given again by the import of its export. Assumes nothing.
-use mathlib.Core.Path.{◌≡◌, sym, ap, ap₂, ◌∙◌}
-use mathlib.Core.List.{List}
-use Prim.Native.Nat.{ℕ, ◌≤◌}
-use borrow.Author.Tests.{le-ltb, le-leb}
-use lib.ListN.{length, take}
+use Rattle.std.proofs.Common.{◌≡◌, ℕ, ◌≤◌, List, length, take, sym, ap, ◌∙◌, ap₂, le-ltb, le-leb}
 use Rattle.numbers.specs.Numbers.{numbers_of}
 use Rattle.numbers.proofs.Areas.{Bytes}
 use Rattle.numbers.proofs.Bytes.{numbers_bytes}

@@ -1,13 +1,5 @@
 -- A timetable is the file of its transfer times and its connections. Assumes nothing.
-use mathlib.Core.Path.{◌≡◌, refl, sym, ap, ap₂, ◌∙◌}
-use mathlib.Core.Bool.{◌&&◌}
-use mathlib.Core.List.{List, ◌∷◌, ◌++◌}
-use Prim.Native.Nat.{ℕ, zero, suc, ◌+◌, ◌*◌, ◌≤◌}
-use native.Mathlib.Omega.{arith}
-use borrow.Author.Tests.{eqb-true}
-use lib.Dec.{eqb}
-use lib.ListN.{length, get_or, drop, take-append-drop, drop_of_length-le}
-use lib.Seq.{drop-cons, drop-drop, get_or-drop, take_all}
+use Rattle.std.proofs.Common.{◌≡◌, ℕ, zero, suc, ◌+◌, ◌*◌, ◌≤◌, ◌&&◌, eqb, List, ◌∷◌, ◌++◌, length, get_or, drop, sym, refl, ap, ◌∙◌, ap₂, arith, take-append-drop, drop_of_length-le, get_or-drop, take_all, drop-cons, drop-drop, eqb-true}
 use Rattle.numbers.specs.Numbers.{numbers_of, bytes_of}
 use Rattle.numbers.proofs.Areas.{Bytes}
 use Rattle.numbers.proofs.Bytes.{bytes_append, bytes_numbers, bytes_take, number_bytes}

@@ -1,13 +1,8 @@
 -- The rows of a timetable: they can be written, may follow one another, none is alone in its trip, and they make the timetable's
 -- connections. Assumes nothing.
-use mathlib.Core.Path.{◌≡◌, refl, sym, ap, ap₂}
-use mathlib.Core.Logic.{⊎_elim}
-use mathlib.Core.Bool.{Bool, true, false, or-true}
-use mathlib.Core.List.{List, ◌∷◌}
-use Prim.Native.Nat.{ℕ, zero, suc, ◌+◌, ◌<◌}
-use native.Mathlib.Omega.{arith}
-use borrow.Author.Tests.{eqb-true, eqb-false, eq-eqb, ne_eqb, lt-ltb}
-use lib.Dec.{ltb, eqb}
+use Rattle.std.proofs.Common.{◌≡◌, ℕ, zero, suc, ◌+◌, ◌<◌, Bool, true, false, eqb, ltb, List, ◌∷◌, sym, refl, ap, ap₂, ⊎_elim, arith, lt-ltb, eq-eqb, ne_eqb, eqb-true}
+use mathlib.Core.Bool.{or-true}
+use borrow.Author.Tests.{eqb-false}
 use Rattle.timetable.specs.File.{connections, trip, stays_aboard}
 use Rattle.timetable.specs.Accepted.{Timetable}
 use Rattle.refusals.specs.Answers.{Passed}

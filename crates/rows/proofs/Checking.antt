@@ -1,12 +1,6 @@
 -- The check of rows one by one: what is left to check gives what the whole gave. Assumes nothing.
-use mathlib.Core.Path.{◌≡◌, sym, ◌∙◌}
-use mathlib.Core.Bool.{Bool, true, false, not}
-use mathlib.Core.List.{List}
-use Prim.Native.Nat.{ℕ, suc, ◌+◌, ◌*◌, ◌-◌, ◌<◌}
+use Rattle.std.proofs.Common.{◌≡◌, ℕ, suc, ◌+◌, ◌-◌, ◌*◌, ◌<◌, Bool, true, false, not, List, drop, sym, ◌∙◌, add-one, arith}
 use native.Mathlib.Nat.{sub-zero}
-use native.Mathlib.Numerals.{add-one}
-use native.Mathlib.Omega.{arith}
-use lib.ListN.{drop}
 use Rattle.refusals.specs.Answers.{refuse_if, or_else, Verdict, Passed, Refused}
 use Rattle.model.specs.Notices.{width, room, count_in, rows_of, cut, stands_right, unused_right, rows_from, standing_verdict, unused_verdict}
 use Rattle.model.specs.declared.Notice.{Notice}

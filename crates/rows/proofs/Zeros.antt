@@ -1,10 +1,7 @@
 -- Numbers looked at one by one, and unused rows by their numbers. Assumes nothing.
-use mathlib.Core.Path.{◌≡◌, refl, sym, ap, ◌∙◌}
-use mathlib.Core.Bool.{Bool, true, false, ◌&&◌, and-false}
-use mathlib.Core.List.{List, [], append-nil}
-use Prim.Native.Nat.{ℕ, suc, ◌+◌, ◌*◌, ◌-◌, ◌≤◌, ◌<◌}
-use native.Mathlib.Omega.{arith}
-use lib.ListN.{length, get_or, take, drop, replicate, length-take, length-drop, length-replicate, get_or-replicate}
+use Rattle.std.proofs.Common.{◌≡◌, ℕ, suc, ◌+◌, ◌-◌, ◌*◌, ◌<◌, ◌≤◌, Bool, true, false, ◌&&◌, List, [], length, get_or, take, drop, replicate, sym, refl, ap, ◌∙◌, append-nil, arith, length-drop, length-take}
+use mathlib.Core.Bool.{and-false}
+use lib.ListN.{length-replicate, get_or-replicate}
 use borrow.Rule.Slice.PartMut.{mid_of}
 use Rattle.refusals.specs.Answers.{Passed}
 use Rattle.model.specs.Notices.{width, room, notices_length, unused_row, numbers_in, row_at, cut, count_in, unused_right, unused_verdict}

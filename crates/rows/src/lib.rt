@@ -1,25 +1,14 @@
 // The check of a notice area's rows: refusal 23.
 #![tactic(auto)]
 
-ghost use Rattle.std.specs.Prelude.{◌≡◌, ◌+◌, ◌≤◌, length, drop};
+ghost use Rattle.std.specs.Prelude.{◌≡◌, ◌≤◌, length};
 ghost use Rattle.refusals.specs.Answers.{verdict_of};
-ghost use Rattle.model.specs.Notices.{width, row_at, notices_length, stands_right, standing_verdict, unused_verdict, rows_verdict};
-ghost use Rattle.rows.specs.Rows.{CountFits, all_zero};
+ghost use Rattle.model.specs.Notices.{notices_length, stands_right, standing_verdict, unused_verdict, rows_verdict};
+ghost use Rattle.rows.specs.Rows.{all_zero};
 
 use model::{LEAST_DELAY, MOST_STANDING, NOTICES_LENGTH, Notice, ROOM, WIDTH};
+use notices::Counted;
 use refusals::{Reason, Refusal};
-
-// The row whose numbers start at a place.
-fn row_at(area: &[u16], at: usize) -> Notice
-    requires { at + width ≤ length area.now }
-    ensures { result ≡ row_at (drop at area.now) }
-{
-    Notice {
-        number: area[at],
-        connection: area[at + 1],
-        delay: area[at + 2],
-    }
-}
 
 // Whether a row may stand after a row of the number before.
 #[tactic(auto, unfolding(model::specs::Notices::stands_right))]
@@ -33,13 +22,13 @@ fn stands_right(n: usize, before: u16, row: Notice) -> bool
 }
 
 // Refusal 23 of the rows that stand.
-fn check_standing(notices: &[u16], n: usize) -> Result<(), Refusal>
-    requires { CountFits notices.now }
-    ensures { verdict_of result ≡ standing_verdict n notices.now }
+fn check_standing(counted: Counted, n: usize) -> Result<(), Refusal>
+    ensures { verdict_of result ≡ standing_verdict n counted.entry.notices.now }
 {
+    let notices = counted.notices;
     let mut before = 0;
     for k in 0..notices[0] {
-        let row = row_at(notices, 1 + WIDTH * k as usize);
+        let row = notices::row_at(notices, 1 + WIDTH * k as usize);
         if !stands_right(n, before, row) {
             return Err(Refusal(Reason::WrongRow, k + 1));
         }
@@ -62,10 +51,10 @@ fn all_zero(xs: &[u16]) -> bool
 }
 
 // Refusal 23 of the other rows, one by one.
-fn first_used(notices: &[u16]) -> Result<(), Refusal>
-    requires { CountFits notices.now }
-    ensures { verdict_of result ≡ unused_verdict notices.now }
+fn first_used(counted: Counted) -> Result<(), Refusal>
+    ensures { verdict_of result ≡ unused_verdict counted.entry.notices.now }
 {
+    let notices = counted.notices;
     for k in notices[0]..ROOM {
         let at = 1 + WIDTH * k as usize;
         if !all_zero(&notices[at..at + WIDTH]) {
@@ -76,15 +65,15 @@ fn first_used(notices: &[u16]) -> Result<(), Refusal>
 }
 
 // Refusal 23 of the other rows: all at once, and one by one for the place of the first wrong one.
-fn check_unused(notices: &[u16]) -> Result<(), Refusal>
-    requires { CountFits notices.now }
-    ensures { verdict_of result ≡ unused_verdict notices.now }
+fn check_unused(counted: Counted) -> Result<(), Refusal>
+    ensures { verdict_of result ≡ unused_verdict counted.entry.notices.now }
 {
+    let notices = counted.notices;
     let start = 1 + WIDTH * notices[0] as usize;
     if all_zero(&notices[start..NOTICES_LENGTH]) {
         return Ok(());
     }
-    first_used(notices)
+    first_used(counted)
 }
 
 // Refusal 23 of a notice area, with its place.
@@ -95,6 +84,7 @@ pub fn check_rows(notices: &[u16], n: usize) -> Result<(), Refusal>
     if ROOM < notices[0] {
         return Err(Refusal(Reason::WrongRow, 0));
     }
-    check_standing(notices, n)?;
-    check_unused(notices)
+    let counted = Counted { notices };
+    check_standing(counted, n)?;
+    check_unused(counted)
 }

@@ -1,13 +1,8 @@
 -- One turn of the loop over the calls: the calls left, on the areas as they are now, give what all calls gave on the first.
 -- Assumes nothing.
-use mathlib.Core.Path.{◌≡◌, refl, ap, sym, ◌∙◌}
-use mathlib.Core.List.{List, [], ◌∷◌, ◌++◌, append_assoc}
-use Prim.Native.Nat.{ℕ, zero, suc, ◌+◌, ◌*◌, ◌-◌, ◌≤◌, ◌<◌}
-use native.Mathlib.Nat.{sub-zero, add-zero}
-use native.Mathlib.Numerals.{add-one}
-use native.Mathlib.Omega.{arith}
-use lib.ListN.{length, get_or, take, drop, set, length-append, length-take, take-append-drop}
-use lib.Seq.{drop-drop, get_or-drop, drop-set-lt, sets-eq, take_at}
+use Rattle.std.proofs.Common.{◌≡◌, ℕ, zero, suc, ◌+◌, ◌-◌, ◌*◌, ◌<◌, ◌≤◌, List, [], ◌∷◌, ◌++◌, length, get_or, take, drop, set, sym, refl, ap, ◌∙◌, append_assoc, add-zero, add-one, arith, length-append, take-append-drop, length-take, get_or-drop, drop-drop, take_at, drop-set-lt}
+use native.Mathlib.Nat.{sub-zero}
+use lib.Seq.{sets-eq}
 use Rattle.refusals.specs.Answers.{Answer}
 use Rattle.model.specs.Register.{Call}
 use Rattle.model.specs.Operations.{outcome}

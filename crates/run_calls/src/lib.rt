@@ -6,6 +6,8 @@ ghost use Rattle.model.specs.Runs.{ran};
 ghost use Rattle.run_calls.specs.Calls.{calls_worked};
 ghost use Rattle.run_calls.specs.Ended.{Ended};
 
+use model::Notice;
+
 // How many numbers a call has, and how many an answer: `call_width` and `answer_width`.
 const CALL_WIDTH: usize = 4;
 
@@ -31,10 +33,12 @@ pub fn work_all(
     for k in 0..n {
         let at = CALL_WIDTH * k;
         let kind = calls[at];
-        let number = calls[at + 1];
-        let connection = calls[at + 2];
-        let delay = calls[at + 3];
-        let noted = run_steps::work_call(file, notices, graph, kind, number, connection, delay);
+        let notice = Notice {
+            number: calls[at + 1],
+            connection: calls[at + 2],
+            delay: calls[at + 3],
+        };
+        let noted = run_steps::work_call(file, notices, graph, kind, notice);
         let first = run_steps::number_of(noted);
         let second = run_steps::value_of(noted);
         answers[ANSWER_WIDTH * k] = first;

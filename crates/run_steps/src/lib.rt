@@ -8,27 +8,27 @@ ghost use Rattle.model.specs.Runs.{called};
 ghost use Rattle.refusals.specs.Answers.{told};
 ghost use Rattle.run_steps.specs.Step.{call_of, answer_number, answer_value};
 
+use model::Notice;
 use refusals::Refusal;
 
-// The first number of a posting: a run's calls are numbers, as `runs::run` takes them.
+// The first number of a posting. A run has a fixed format, in which it is kept and handed over: four numbers a call (0 for a posting with number,
+// connection, delay; anything else for a withdrawal of the number), two an answer.
 const POSTING: u16 = 0;
 
-// One call.
+// One call: a notice posted, or the notice of its number withdrawn.
 pub fn work_call(
     file: &[u8],
     notices: &mut [u16],
     graph: &mut [u16],
     kind: u16,
-    number: u16,
-    connection: u16,
-    delay: u16,
+    notice: Notice,
 ) -> Result<u16, Refusal>
     ensures { outcome (told result) (lent notices.new graph.new)
-        ≡ called (day_of file.now) (lent notices.old graph.old) (call_of kind number connection delay) }
+        ≡ called (day_of file.now) (lent notices.old graph.old) (call_of kind notice.number notice.connection notice.delay) }
 {
     match kind {
-        POSTING => graph::post(file, notices, graph, number, connection, delay),
-        _ => graph::withdraw(file, notices, graph, number),
+        POSTING => graph::post(file, notices, graph, notice),
+        _ => graph::withdraw(file, notices, graph, notice.number),
     }
 }
 
@@ -38,7 +38,7 @@ pub fn number_of(noted: Result<u16, Refusal>) -> u16
 {
     match noted {
         Ok(_) => 0,
-        Err(Refusal(reason, _)) => reason as u16,
+        Err(Refusal(reason, _)) => reason.number(),
     }
 }
 

@@ -1,8 +1,5 @@
 -- A whole run from its two parts, the building and the calls worked after it. Assumes nothing.
-use mathlib.Core.Path.{◌≡◌, ap, sym, ◌∙◌}
-use mathlib.Core.List.{List, ◌++◌}
-use Prim.Native.Nat.{ℕ, ◌*◌}
-use lib.ListN.{length, drop}
+use Rattle.std.proofs.Common.{◌≡◌, ℕ, ◌*◌, List, ◌++◌, length, drop, sym, ap, ◌∙◌}
 use Rattle.refusals.specs.Answers.{accepted, refused}
 use Rattle.timetable.specs.declared.Counts.{Counts}
 use Rattle.model.specs.Day.{Day, Areas}

@@ -9,9 +9,10 @@ use refusals::Refusal;
 use timetable::Counts;
 
 // Building, then a list of postings and withdrawals, each worked by the library's own `post` and `withdraw` on both areas as
-// the call before left them. A call is four numbers (0 for a posting with number, connection, delay; anything else for a
-// withdrawal of the number), an answer two (the refusal's number and place, or 0 and the notice's number); as many calls are
-// worked as both slices hold. The building's answer is the result; where it is refused, no call is worked.
+// the call before left them. A run has a fixed format, in which it is kept and handed over: a call is four numbers (0 for a posting
+// with number, connection, delay; anything else for a withdrawal of the number), an answer two (the refusal's number and place, or 0
+// and the notice's number); as many calls are worked as both slices hold. The building's answer is the result; where it is refused,
+// no call is worked.
 pub fn run(
     file: &[u8],
     notices: &mut [u16],

@@ -9,7 +9,8 @@ ghost use Rattle.model.specs.Shown.{shown};
 ghost use Rattle.search.specs.Answered.{Answered};
 
 use graph::{Network, Shown};
-use model::Arrival;
+use model::{Arrival, Lent, Request};
+use predecessors::Search;
 use refusals::Refusal;
 use timetable::Timetable;
 
@@ -21,60 +22,61 @@ fn find_journey(
     network: Network,
     work: &mut [u16],
     journey: &mut [u16],
-    from: u16,
-    to: u16,
-    time: u16,
+    request: Request,
 ) -> Result<Arrival, Refusal>
     requires { (network.shown.timetable.connections ≤ length work.old) × (network.shown.timetable.connections ≤ length journey.old) }
     ensures { enquiry (told result) work.new journey.new
-        ≡ searched Passed (shown network.entry.shown.timetable.file.now network.entry.shown.graph.now) from to time work.old journey.old }
+        ≡ searched Passed (shown network.entry.shown.timetable.file.now network.entry.shown.graph.now) request.from request.to request.time work.old journey.old }
 {
+    // The library has no heap.
     let mut order = [model::NONE; timetable::MAX_CONNECTIONS];
     graph::order_departures(
         network.shown.graph,
         network.shown.timetable.connections,
         &mut order,
     );
-    predecessors::fill_predecessors(network, &order, from, time, work);
-    journeys::read_journey(network, work, journey, from, to, time)
+    let search = Search {
+        network,
+        from: request.from,
+        time: request.time,
+    };
+    predecessors::fill_predecessors(search, &order, work);
+    journeys::read_journey(network, work, journey, request)
 }
 
 // The enquiry in an accepted timetable.
 fn enquire_by(
     timetable: Timetable,
-    notices: &[u16],
-    graph: &[u16],
+    areas: Lent,
     work: &mut [u16],
     journey: &mut [u16],
-    from: u16,
-    to: u16,
-    time: u16,
+    request: Request,
 ) -> Result<Arrival, Refusal>
     ensures { enquiry (told result) work.new journey.new
-        ≡ enquired (day_of timetable.entry.file.now) (lent notices.now graph.now)
-        work.old journey.old from to time }
+        ≡ enquired (day_of timetable.entry.file.now) (lent areas.entry.notices.now areas.entry.graph.now)
+        work.old journey.old request.from request.to request.time }
 {
-    requests::lent_verdict(timetable, notices, graph, work, journey)?;
-    requests::request_verdict(timetable.stops, from, to, time)?;
-    let shown = Shown { timetable, graph };
-    find_journey(Network { shown }, work, journey, from, to, time)
+    requests::lent_verdict(timetable, areas, work, journey)?;
+    requests::request_verdict(timetable.stops, request)?;
+    let shown = Shown {
+        timetable,
+        graph: areas.graph,
+    };
+    find_journey(Network { shown }, work, journey, request)
 }
 
 // The journey that arrives first, and the predecessor of each connection.
 pub fn enquire(
     file: &[u8],
-    notices: &[u16],
-    graph: &[u16],
+    areas: Lent,
     work: &mut [u16],
     journey: &mut [u16],
-    from: u16,
-    to: u16,
-    time: u16,
+    request: Request,
 ) -> Result<Arrival, Refusal>
-    ensures { Answered (day_of file.now) (lent notices.now graph.now)
-        work.old journey.old from to time
+    ensures { Answered (day_of file.now) (lent areas.entry.notices.now areas.entry.graph.now)
+        work.old journey.old request.from request.to request.time
         (told result) work.new journey.new }
 {
     let timetable = graph::open(file)?;
-    enquire_by(timetable, notices, graph, work, journey, from, to, time)
+    enquire_by(timetable, areas, work, journey, request)
 }

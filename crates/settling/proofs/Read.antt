@@ -1,13 +1,6 @@
 -- What the readers of the timetable and of the graph area ask and tell at a connection. Assumes nothing.
-use mathlib.Core.Path.{◌≡◌, sym, ◌∙◌}
-use mathlib.Core.Bool.{true, false}
-use mathlib.Core.List.{List}
-use Prim.Native.Nat.{ℕ, ◌*◌, ◌<◌, ◌≤◌}
-use native.Mathlib.Omega.{arith}
-use borrow.Author.Tests.{eq-eqb, ne_eqb}
-use lib.Dec.{leb}
-use lib.ListN.{length}
-use Rattle.timetable.specs.File.{connections, from, stays_aboard}
+use Rattle.std.proofs.Common.{◌≡◌, ℕ, ◌≤◌, true, false, leb, List, sym, ◌∙◌, eq-eqb, ne_eqb}
+use Rattle.timetable.specs.File.{from, stays_aboard}
 use Rattle.model.specs.Graph.{departure_in}
 use Rattle.model.specs.Journeys.{can_be_first}
 use Rattle.model.specs.Shown.{shown, Readable}

@@ -1,13 +1,6 @@
 -- The entry that a connection gets, as the code finds it. Assumes nothing.
-use mathlib.Core.Path.{◌≡◌, sym, ◌∙◌}
-use mathlib.Core.Logic.{⊎_elim}
-use mathlib.Core.Bool.{true, false, false≢true}
-use mathlib.Core.List.{List}
-use Prim.Native.Nat.{ℕ, ◌-◌, ◌<◌, ◌≤◌}
-use native.Mathlib.Omega.{arith}
-use borrow.Author.Tests.{lt-ltb, le-ltb}
-use lib.Dec.{ltb}
-use lib.ListN.{length, get_or}
+use Rattle.std.proofs.Common.{◌≡◌, ℕ, ◌-◌, ◌<◌, ◌≤◌, true, false, ltb, List, length, get_or, sym, ◌∙◌, ⊎_elim, arith, le-ltb, lt-ltb}
+use mathlib.Core.Bool.{false≢true}
 use Rattle.model.specs.Least.{none}
 use Rattle.model.specs.Network.{Network, Sound}
 use Rattle.model.specs.Journeys.{can_be_first}

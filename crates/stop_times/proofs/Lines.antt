@@ -1,20 +1,14 @@
 -- A line of a text read column by column: one that is read leaves the rest of the line, and with one that is not the line is wrong.
 -- Assumes nothing.
-use mathlib.Core.Path.{◌≡◌, refl, ap, ◌∙◌}
-use mathlib.Core.Bool.{Bool, true, false, cond}
-use mathlib.Core.List.{List, [], ◌∷◌, ◌++◌}
-use Prim.Native.Nat.{ℕ, ◌+◌}
-use native.Mathlib.Omega.{arith}
-use lib.ListN.{length, drop, length-append}
+use Rattle.std.proofs.Common.{◌≡◌, ℕ, ◌+◌, Bool, true, false, cond, List, [], ◌∷◌, ◌++◌, length, drop, Some, None, Option, refl, ap, ◌∙◌, arith, length-append}
 use Rattle.decimals.specs.Bytes.{newline}
-use Rattle.std.proofs.Common.{Option, Some, None}
 use Rattle.gtfs.specs.declared.StopTime.{StopTime}
 use Rattle.cuts.specs.Cut.{has, before, after}
 use Rattle.gtfs.specs.StopTimes.{comma}
 use Rattle.cuts.proofs.Cut.{cut_whole, before_without, before_end, after_end, after_none, has_either, before_first, before_second}
 use Rattle.cuts.proofs.Pieces.{piece_after}
-use Rattle.stop_times.specs.Columns.{with_next, column_of}
-use Rattle.stop_times.proofs.Columns.{column_read, column_unread}
+use Rattle.cuts.specs.Columns.{with_next, column_of}
+use Rattle.cuts.proofs.Columns.{column_read, column_unread}
 
 -- what is left of a line at a place of a text, of which a function makes the row
 abbrev pub line_from : (List ℕ → Option StopTime) → List ℕ → ℕ → Option (StopTime × ℕ)

@@ -1,19 +1,15 @@
 -- The row of a line: its columns read one after the other, up to the first that cannot be read. Assumes nothing.
-use mathlib.Core.Path.{◌≡◌, refl, sym}
-use mathlib.Core.List.{List}
-use Prim.Native.Nat.{ℕ}
-use native.Mathlib.Omega.{arith}
-use lib.ListN.{drop}
+use Rattle.std.proofs.Common.{◌≡◌, ℕ, List, drop, Some, None, Option, sym, refl, arith}
 use Rattle.decimals.specs.Bytes.{newline}
 use Rattle.decimals.specs.Decimal.{decimal}
-use Rattle.std.proofs.Common.{Option, Some, None}
 use Rattle.gtfs.specs.declared.StopTime.{StopTime}
 use Rattle.cuts.specs.Cut.{before}
 use Rattle.gtfs.specs.Clock.{colon, time_of}
 use Rattle.gtfs.specs.StopTimes.{comma, row_from, row_of}
 use Rattle.cuts.proofs.Cut.{number_without}
 use Rattle.gtfs.proofs.Clock.{clock_without}
-use Rattle.stop_times.specs.Columns.{column_of, line_at}
+use Rattle.cuts.specs.Columns.{column_of}
+use Rattle.stop_times.specs.Columns.{line_at}
 use Rattle.stop_times.proofs.Lines.{line_from, OneLine, column_then, read_then, unread_then, last_read, last_unread}
 
 -- the row of the columns that are read and of the rest of the line, from stop_sequence, the stop, the departure, the arrival on

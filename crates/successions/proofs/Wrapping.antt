@@ -7,7 +7,7 @@ use Rattle.timetable.specs.Check.{wrong_trip, wrong_join}
 use Rattle.timetable.proofs.Tests.{by_lt}
 use Rattle.timetable.proofs.Next.{stays_next}
 use Rattle.connection_tests.proofs.Next.{trip_lower, trip_higher, join_next, join_none}
-use Rattle.successions.specs.Next.{HasNext, mask_if}
+use Rattle.successions.specs.Next.{ComesAfter, mask_if}
 
 -- all bits of a number
 masked : (n : ℕ) → n < 2 ^ 16 → bit_and n 65535 ≡ n
@@ -19,7 +19,7 @@ leb_not m n = ⊎_elim (λ (l : n < m). rw (lt-leb m n l, lt-ltb n m l)) (λ (l 
 
 module _ (f : List ℕ) where
   -- the step from the trip before, as numbers of 16 bits wrap: more than one is wrong
-  module _ {s c step : ℕ} (h : HasNext f s c) (e : (step + trip f (c - 1)) % 2 ^ 16 ≡ trip f c) (fits : step < 2 ^ 16) where
+  module _ {c step : ℕ} (h : ComesAfter f c) (e : (step + trip f (c - 1)) % 2 ^ 16 ≡ trip f c) (fits : step < 2 ^ 16) where
     pub step_wrong : 1 < step → wrong_trip f c ≡ true
     step_wrong l =
         ⊎_elim

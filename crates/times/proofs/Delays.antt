@@ -1,9 +1,5 @@
 -- The times by primary delays that were told from a notice area are those with the notices that stand by it. Assumes nothing.
-use mathlib.Core.Path.{◌≡◌, refl, sym, ap, subst}
-use mathlib.Core.List.{List}
-use Prim.Native.Nat.{ℕ, zero, suc, ◌<◌, ◌≤◌}
-use native.Mathlib.Omega.{arith}
-use Rattle.timetable.specs.File.{connections}
+use Rattle.std.proofs.Common.{◌≡◌, ℕ, zero, suc, ◌<◌, ◌≤◌, List, sym, refl, ap, subst, arith}
 use Rattle.model.specs.Network.{Network}
 use Rattle.model.specs.declared.PrimaryDelay.{PrimaryDelay}
 use Rattle.model.specs.Notices.{most_standing, rows_of, Standing}
@@ -24,7 +20,7 @@ times_same net net' (suc n) d a =
     rw (times_same net net' n (λ c l. d c (omega arith)) (λ c l. a c (omega arith)), d n (omega arith), a n (omega arith))
 
 -- primary delays told by the notices that stand
-module _ (f notices primaries : List ℕ) (n m : ℕ) (standing : Standing (connections f) notices) (long : n ≤ m)
+module _ (f notices primaries : List ℕ) (n m : ℕ) {C : ℕ} (standing : Standing C notices) (long : n ≤ m)
     (told : Tells (rows_of notices) primaries m) where
   -- none is longer than a notice's
   pub delays_most : Delays primaries n
@@ -32,7 +28,7 @@ module _ (f notices primaries : List ℕ) (n m : ℕ) (standing : Standing (conn
       record {
         room = omega (arith, told.room);
         most = λ c h.
-            subst (λ (p : PrimaryDelay). p.delay ≤ most_standing) (sym (told.tells c (omega arith))) (primary_most c (connections f) 0 (rows_of notices) standing.rows.ascending);
+            subst (λ (p : PrimaryDelay). p.delay ≤ most_standing) (sym (told.tells c (omega arith))) (primary_most c C 0 (rows_of notices) standing.rows.ascending);
       }
 
   -- so that the times are those with the notices that stand

@@ -1,13 +1,6 @@
 -- The loop that fills the times: what one turn does, and that its last leaves the whole list. Assumes nothing.
-use mathlib.Core.Path.{◌≡◌, refl, ◌∙◌, sym}
-use mathlib.Core.Logic.{⊎_elim}
-use mathlib.Core.Bool.{true, false}
-use mathlib.Core.List.{List, [], ◌∷◌, ◌++◌}
-use Prim.Native.Nat.{ℕ, zero, suc, ◌+◌, ◌*◌, ◌<◌, ◌≤◌}
-use native.Mathlib.Numerals.{add-one}
-use native.Mathlib.Omega.{arith}
-use lib.ListN.{length, drop, set, length-append, length-drop}
-use lib.Seq.{drop-append-add, drop-drop, sets-eq, take_at}
+use Rattle.std.proofs.Common.{◌≡◌, ℕ, zero, suc, ◌+◌, ◌*◌, ◌<◌, ◌≤◌, true, false, List, [], ◌∷◌, ◌++◌, length, drop, set, sym, refl, ◌∙◌, ⊎_elim, add-one, arith, length-append, length-drop, drop-drop, take_at}
+use lib.Seq.{drop-append-add, sets-eq}
 use Rattle.timetable.specs.File.{connections, stays_aboard}
 use Rattle.model.specs.Network.{Network, last_expected}
 use Rattle.model.specs.Notices.{most_standing}

@@ -2,14 +2,15 @@
 #![tactic(auto)]
 
 ghost use Rattle.std.specs.Prelude.{◌≡◌, ◌*◌, ◌<◌, ◌≤◌, length};
-ghost use Rattle.timetable.specs.File.{connections};
 ghost use Rattle.model.specs.Day.{day_of};
 ghost use Rattle.model.specs.Graph.{times};
 ghost use Rattle.times.specs.Times.{Delays, network_in, TimesAt, longest_time};
 ghost use Rattle.model.specs.Times.{network_of};
 ghost use Rattle.model.specs.Notices.{rows_of, Standing};
+ghost use Rattle.notices.specs.Area.{standing_prop};
 
 use model::PrimaryDelay;
+use notices::Counted;
 use timetable::Timetable;
 
 // When a connection departs and arrives.
@@ -54,13 +55,28 @@ pub fn fill_times(timetable: Timetable, primaries: &[u32], area: &mut [u16])
     }
 }
 
-// The expected times of each connection with the notices that stand.
-pub fn expected_times(timetable: Timetable, notices: &[u16], area: &mut [u16])
-    requires { Standing (connections timetable.file.now) notices.now × (length area.old ≡ 2 * timetable.connections) }
-    ensures { area.new
-        ≡ times (network_of (day_of timetable.entry.file.now) (rows_of notices.now)) timetable.entry.connections }
-{
-    let mut primaries = [0u32; timetable::MAX_CONNECTIONS];
-    delays::standing_delays(notices, &mut primaries);
-    fill_times(timetable, &primaries, area);
+// What expected times follow from: a timetable and the notices that stand.
+#[derive(Clone, Copy)]
+pub struct Outlook<'a> {
+    pub timetable: Timetable<'a>,
+    pub notices: &'a [u16],
+    ghost standing: { Standing timetable.connections notices.now } by { standing_prop timetable.connections notices.now },
+}
+
+impl Outlook<'_> {
+    // The expected times of each connection.
+    #[tactic(auto, using(model::proofs::Areas::standing_fits))]
+    pub fn expected_times(self, area: &mut [u16])
+        requires { length area.old ≡ 2 * self.timetable.connections }
+        ensures { area.new
+            ≡ times (network_of (day_of self.entry.timetable.file.now) (rows_of self.entry.notices.now)) self.entry.timetable.connections }
+    {
+        // no heap: room for the most connections
+        let mut primaries = [0u32; timetable::MAX_CONNECTIONS];
+        let counted = Counted {
+            notices: self.notices,
+        };
+        delays::standing_delays(counted, &mut primaries);
+        fill_times(self.timetable, &primaries, area);
+    }
 }

@@ -1,11 +1,6 @@
 -- The check accepts exactly the files of document 01, and an accepted file has room for what the readers read.
 -- Assumes nothing.
-use mathlib.Core.Path.{◌≡◌, refl}
-use mathlib.Core.Logic.{◌↔◌}
-use mathlib.Core.List.{List}
-use Prim.Native.Nat.{ℕ, zero, suc, ◌<◌, ◌≤◌}
-use native.Mathlib.Omega.{arith}
-use lib.ListN.{length}
+use Rattle.std.proofs.Common.{◌≡◌, ℕ, zero, suc, ◌<◌, ◌≤◌, ◌↔◌, List, length, arith}
 use Rattle.refusals.specs.Answers.{first_below, Passed}
 use Rattle.timetable.specs.File.{header_length, stops, connections}
 use Rattle.timetable.specs.Check.{header_verdict, stop_verdict, connection_verdict, file_verdict}

@@ -1,8 +1,5 @@
 -- What the answer of the check tells of the file. Assumes nothing.
-use mathlib.Core.Path.{◌≡◌, refl, sym, ap}
-use mathlib.Core.List.{List}
-use Prim.Native.Nat.{ℕ}
-use native.Mathlib.Omega.{arith}
+use Rattle.std.proofs.Common.{◌≡◌, ℕ, List, sym, refl, ap, arith}
 use Rattle.refusals.specs.Answers.{Answer, accepted, refused, answering, Verdict, Passed, Refused}
 use Rattle.timetable.specs.Accepted.{Timetable, Opened}
 use Rattle.timetable.specs.Refusals.{FileRefusal}

@@ -1,8 +1,6 @@
 -- The check of small files, computed: files that are accepted, and some for each refusal, with the numbers of document 01
 -- written out. Assumes nothing.
-use mathlib.Core.Path.{◌≡◌, refl}
-use mathlib.Core.List.{List, [], ◌∷◌, ◌++◌, map}
-use Prim.Native.Nat.{ℕ}
+use Rattle.std.proofs.Common.{◌≡◌, ℕ, List, [], ◌∷◌, ◌++◌, map, refl}
 use Rattle.refusals.specs.Answers.{first_below, Passed, Refused}
 use Rattle.timetable.specs.File.{transfer_time, trip, from, to, scheduled_departure, scheduled_arrival, stays_aboard}
 use Rattle.timetable.specs.Check.{header_verdict, stop_verdict, wrong_stops, wrong_trip, wrong_times, wrong_join, connection_verdict, file_verdict}

@@ -1,9 +1,5 @@
 -- A connection and the one before it, in the code's numbers: c and c - 1. Assumes nothing.
-use mathlib.Core.Path.{◌≡◌}
-use mathlib.Core.List.{List}
-use Prim.Native.Nat.{ℕ, zero, suc, ◌-◌, ◌<◌}
-use native.Mathlib.Omega.{arith}
-use lib.Dec.{eqb}
+use Rattle.std.proofs.Common.{◌≡◌, ℕ, zero, suc, ◌-◌, ◌<◌, eqb, List, arith}
 use Rattle.timetable.specs.File.{trip, stays_aboard}
 
 pub one_back : (c : ℕ) → suc c - 1 ≡ c

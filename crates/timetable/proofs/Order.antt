@@ -1,10 +1,5 @@
 -- Refusals in order: the first of a list, the first of v 0, v 1, .., v (n - 1). Assumes nothing.
-use mathlib.Core.Path.{◌≡◌, refl}
-use mathlib.Core.Logic.{◌↔◌, ◌⊎◌, inl, inr, ⊎_elim}
-use mathlib.Core.Bool.{Bool, true, false}
-use Prim.Native.Nat.{ℕ, zero, suc, ◌+◌, ◌<◌, ◌≤◌}
-use native.Mathlib.Numerals.{add-one}
-use native.Mathlib.Omega.{arith}
+use Rattle.std.proofs.Common.{◌≡◌, ℕ, zero, suc, ◌+◌, ◌<◌, ◌≤◌, Bool, true, false, ◌⊎◌, ◌↔◌, refl, inl, inr, ⊎_elim, add-one, arith}
 use Rattle.refusals.specs.Answers.{refuse_if, is_passed, or_else, first_below, Verdict, Passed, Refused}
 use Rattle.timetable.proofs.Tests.{Faults, not_both, by_lt}
 

@@ -1,9 +1,5 @@
 -- The check refuses a file with a number and a place exactly where document 01 does. Assumes nothing.
-use mathlib.Core.Path.{◌≡◌, refl}
-use mathlib.Core.Logic.{◌↔◌, inl, ⊎_elim}
-use mathlib.Core.List.{List}
-use Prim.Native.Nat.{ℕ}
-use native.Mathlib.Omega.{arith}
+use Rattle.std.proofs.Common.{◌≡◌, ℕ, ◌↔◌, List, refl, inl, ⊎_elim, arith}
 use Rattle.refusals.specs.Answers.{first_below, Passed, Refused}
 use Rattle.timetable.specs.File.{stops, connections}
 use Rattle.refusals.specs.RefusalNumber as refusal

@@ -1,13 +1,6 @@
 -- The rules of the check, one for each refusal, in the terms of document 01. Assumes nothing.
-use mathlib.Core.Path.{◌≡◌, refl}
-use mathlib.Core.Logic.{inl, inr, ⊎_elim}
-use mathlib.Core.Bool.{Bool, true, false, not, ◌&&◌, ◌||◌}
-use mathlib.Core.List.{List, [], ◌∷◌}
-use Prim.Native.Nat.{ℕ, zero, suc, ◌-◌, ◌<◌, ◌≤◌}
-use native.Mathlib.Omega.{arith}
-use borrow.Author.Tests.{leb-true, le-leb, eqb-true, eq-eqb, not-false}
-use lib.Dec.{ltb, leb, eqb}
-use lib.ListN.{length}
+use Rattle.std.proofs.Common.{◌≡◌, ℕ, zero, suc, ◌-◌, ◌<◌, ◌≤◌, Bool, true, false, not, ◌&&◌, ◌||◌, eqb, ltb, leb, List, [], ◌∷◌, length, refl, inl, inr, ⊎_elim, arith, eq-eqb, eqb-true, le-leb, leb-true}
+use borrow.Author.Tests.{not-false}
 use Rattle.refusals.specs.Answers.{refuse_if, is_passed, first_refusal, first_below, Passed, Refused}
 use Rattle.timetable.specs.File.{header_length, file_length, marked, stops, connections, transfer_time, trip, from, to, scheduled_departure, scheduled_arrival, stays_aboard}
 use Rattle.timetable.specs.File as file

@@ -1,12 +1,8 @@
 -- What the tests mean, and how to go by cases on an order. Assumes nothing.
-use mathlib.Core.Path.{◌≡◌, refl, sym}
-use mathlib.Core.Logic.{◌↔◌, ◌⊎◌, inl, inr, ⊎_elim}
-use mathlib.Core.Bool.{Bool, true, false, not, ◌&&◌, ◌||◌, false≢true}
-use Prim.Native.Nat.{ℕ, ◌<◌, ◌≤◌}
+use Rattle.std.proofs.Common.{◌≡◌, ℕ, ◌<◌, ◌≤◌, Bool, true, false, not, ◌&&◌, ◌||◌, eqb, ltb, leb, ◌⊎◌, ◌↔◌, sym, refl, inl, inr, ⊎_elim, arith, ltb-false, le-ltb, eq-eqb, ne_eqb, eqb-true, leb-false}
+use mathlib.Core.Bool.{false≢true}
 use native.Mathlib.Decide.{dec_lt, ℕ_discrete}
-use native.Mathlib.Omega.{arith}
-use borrow.Author.Tests.{ltb-false, le-ltb, leb-false, lt-leb, eqb-true, eqb-false, eq-eqb, ne_eqb, not-false}
-use lib.Dec.{ltb, leb, eqb}
+use borrow.Author.Tests.{lt-leb, eqb-false, not-false}
 
 -- by cases on an order
 lt_split : {m n : ℕ} → Dec (m < n) → (m < n) ⊎ (n ≤ m)

@@ -1,6 +1,6 @@
 -- The check of a timetable file: refusals 1 to 11 in their order, each with its place. Assumes nothing.
 use Rattle.std.specs.Prelude.{Bool, false, not, ◌&&◌, ◌||◌, List, [], ◌∷◌, ℕ, zero, suc, ltb, leb, eqb, length}
-use Rattle.refusals.specs.Answers.{Answer, accepted, refused, refuse_if, or_else, first_refusal, first_below, answering, Verdict}
+use Rattle.refusals.specs.Answers.{Answer, refuse_if, or_else, first_refusal, first_below, answering, Verdict}
 use Rattle.timetable.specs.File.{header_length, file_length, marked, version, stops, connections, transfer_time, trip, from, to, scheduled_departure, scheduled_arrival, stays_aboard}
 use Rattle.refusals.specs.RefusalNumber as refusal
 use Rattle.timetable.specs.declared.Counts.{Counts}

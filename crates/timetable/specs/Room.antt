@@ -1,7 +1,6 @@
 -- Where a file has room for what a reader reads. Assumes nothing.
 use Rattle.std.specs.Prelude.{List, ◌≡◌, ℕ, suc, ◌+◌, ◌*◌, ◌<◌, ◌≤◌, length}
 use Rattle.timetable.specs.File.{header_length, place_after, stops}
-use Rattle.timetable.specs.Check.{max_connections}
 
 -- the file holds the minimum transfer time of stop s
 abbrev pub HasStop : List ℕ → ℕ → Type 0
@@ -15,7 +14,6 @@ HasCount f s = s ≡ stops f
 abbrev pub HoldsConnection : List ℕ → ℕ → ℕ → Type 0
 HoldsConnection f s c = place_after s (suc c) ≤ length f
 
--- and the first n connections
-pub record HoldsConnections (f : List ℕ) (s n : ℕ) : Type 0 where
-  pub few : n ≤ max_connections
-  pub room : place_after s n ≤ length f
+-- and each of n connections
+abbrev pub HoldsEach : List ℕ → ℕ → ℕ → Type 0
+HoldsEach f s n = (c : ℕ) → c < n → HoldsConnection f s c

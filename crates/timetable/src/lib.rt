@@ -5,7 +5,7 @@ ghost use Rattle.std.specs.Prelude.{◌≡◌, ◌+◌, ◌*◌, ◌<◌, ◌≤
 ghost use Rattle.timetable.specs.File.{header_length, stops, connections, place_after, transfer_time, field, trip, from, to, scheduled_departure, scheduled_arrival, stays_aboard};
 ghost use Rattle.timetable.specs.Accepted.{Opened, opened_prop};
 ghost use Rattle.timetable.specs.Check.{max_transfer_time};
-ghost use Rattle.timetable.specs.Room.{HasCount, HasStop, HoldsConnection};
+ghost use Rattle.timetable.specs.Room.{HasCount, HasStop, HoldsEach};
 
 // The length of the header, and of one connection: `header_length` and `connection_length`.
 pub const HEADER_LENGTH: usize = 9;
@@ -33,7 +33,7 @@ pub struct Counts {
     pub connections: u16,
 }
 
-// How many stops a file with a header has.
+// How many stops a file with a header has: each count is a field by its name.
 pub fn stops(file: &[u8]) -> u16
     requires { header_length ≤ length file.now }
     ensures { result ≡ stops file.now }
@@ -49,12 +49,14 @@ pub fn connections(file: &[u8]) -> u16
     numbers::number_at(file, 7)
 }
 
-// The fields of a file, by how many stops it says that it has.
+// The fields of a file, by how many stops it says that it has, and of the connections that it holds as many as are to be read.
 #[derive(Clone, Copy)]
 pub struct Fields<'a> {
     pub file: &'a [u8],
     pub stops: usize,
+    pub connections: usize,
     ghost counted: { HasCount file.now stops },
+    ghost holds: { HoldsEach file.now stops connections },
 }
 
 // An accepted timetable file, with its counts.
@@ -66,6 +68,8 @@ pub struct Timetable<'a> {
     ghost opened: { Opened file.now stops connections } by { opened_prop file.now stops connections },
 }
 
+// A reader for each field by its name: one reader over an enum of the fields would have a case for each of them, and every caller would
+// name two things for one.
 impl Fields<'_> {
     // The minimum transfer time of stop s.
     #[tactic(auto, unfolding(crate::specs::File::transfer_time))]
@@ -90,7 +94,7 @@ impl Fields<'_> {
     // The trip of connection c.
     #[tactic(auto, unfolding(crate::specs::File::trip))]
     pub fn trip(self, c: usize) -> u16
-        requires { HoldsConnection self.file.now self.stops c }
+        requires { c < self.connections }
         ensures { result ≡ trip self.entry.file.now c }
     {
         self.field(c, 0)
@@ -99,7 +103,7 @@ impl Fields<'_> {
     // The stop that connection c starts from.
     #[tactic(auto, unfolding(crate::specs::File::from))]
     pub fn from(self, c: usize) -> u16
-        requires { HoldsConnection self.file.now self.stops c }
+        requires { c < self.connections }
         ensures { result ≡ from self.entry.file.now c }
     {
         self.field(c, 1)
@@ -108,7 +112,7 @@ impl Fields<'_> {
     // The stop that connection c goes to.
     #[tactic(auto, unfolding(crate::specs::File::to))]
     pub fn to(self, c: usize) -> u16
-        requires { HoldsConnection self.file.now self.stops c }
+        requires { c < self.connections }
         ensures { result ≡ to self.entry.file.now c }
     {
         self.field(c, 2)
@@ -117,7 +121,7 @@ impl Fields<'_> {
     // When connection c departs by the timetable.
     #[tactic(auto, unfolding(crate::specs::File::scheduled_departure))]
     pub fn scheduled_departure(self, c: usize) -> u16
-        requires { HoldsConnection self.file.now self.stops c }
+        requires { c < self.connections }
         ensures { result ≡ scheduled_departure self.entry.file.now c }
     {
         self.field(c, 3)
@@ -126,7 +130,7 @@ impl Fields<'_> {
     // When connection c arrives by the timetable.
     #[tactic(auto, unfolding(crate::specs::File::scheduled_arrival))]
     pub fn scheduled_arrival(self, c: usize) -> u16
-        requires { HoldsConnection self.file.now self.stops c }
+        requires { c < self.connections }
         ensures { result ≡ scheduled_arrival self.entry.file.now c }
     {
         self.field(c, 4)
@@ -135,7 +139,7 @@ impl Fields<'_> {
     // Whether connection c has the trip of the one before it.
     #[tactic(auto, unfolding(crate::specs::File::stays_aboard))]
     pub fn stays_aboard(self, c: usize) -> bool
-        requires { HoldsConnection self.file.now self.stops c }
+        requires { c < self.connections }
         ensures { result ≡ stays_aboard self.entry.file.now c }
     {
         if c == 0 {
@@ -145,14 +149,17 @@ impl Fields<'_> {
     }
 }
 
+// The same readers, by what is accepted: stops and transfer times have bounds.
 impl<'a> Timetable<'a> {
     // The fields of the file.
     fn fields(self) -> Fields<'a>
-        ensures { (result.file.now ≡ self.entry.file.now) × (result.stops ≡ self.entry.stops) }
+        ensures file { result.file.now ≡ self.entry.file.now }
+        ensures counts { (result.stops ≡ self.entry.stops) × (result.connections ≡ self.entry.connections) }
     {
         Fields {
             file: self.file,
             stops: self.stops,
+            connections: self.connections,
         }
     }
 

@@ -1,15 +1,7 @@
 -- Following predecessors: those of an enquiry lead to an end, how long a journey is, and how it is written from its end.
 -- Assumes nothing.
-use mathlib.Core.Path.{◌≡◌, refl, sym, ◌∙◌, ap}
-use mathlib.Core.Logic.{⊎_elim}
-use mathlib.Core.Bool.{Bool, true, false, cond}
-use mathlib.Core.List.{List, [], ◌∷◌, ◌++◌, reverse, reverse_aux, reverse_aux-eq}
-use Prim.Native.Nat.{ℕ, zero, suc, ◌-◌, ◌<◌, ◌≤◌}
-use native.Mathlib.Omega.{arith}
-use lib.ListN.{length, get_or, drop, set}
-use lib.Seq.{drop-cons, get_or-set_same, drop-set-lt, lt-length-set}
-use lib.Dec.{eqb}
-use borrow.Author.Tests.{eq-eqb, ne_eqb}
+use Rattle.std.proofs.Common.{◌≡◌, ℕ, zero, suc, ◌-◌, ◌<◌, ◌≤◌, Bool, true, false, cond, eqb, List, [], ◌∷◌, ◌++◌, reverse, length, get_or, drop, set, sym, refl, ap, ◌∙◌, ⊎_elim, arith, drop-cons, get_or-set_same, drop-set-lt, lt-length-set, eq-eqb, ne_eqb}
+use mathlib.Core.List.{reverse_aux, reverse_aux-eq}
 use Rattle.model.specs.Least.{none}
 use Rattle.model.specs.Network.{Network, Sound}
 use Rattle.model.specs.Predecessors.{predecessors, follow}

@@ -5,6 +5,7 @@ ghost use Rattle.std.specs.Prelude.{◌≡◌, ◌≤◌, length};
 ghost use Rattle.trails.specs.Trail.{journey_to, Trail, JourneyWritten};
 
 // How many connections the journey has that ends with last. A `while`, since each step leads to what the one before found.
+#[tactic(auto, using(crate::proofs::Trail::length_follow, crate::proofs::Trail::step_more))]
 fn journey_length(predecessors: &[u16], last: u16) -> usize
     requires { Trail predecessors.now last }
     ensures { result ≡ length (journey_to predecessors.now last) }

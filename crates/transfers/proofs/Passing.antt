@@ -1,14 +1,8 @@
 -- The sweep over the events of a network from the last place down. At one time the ready events have the lower numbers, so at c's
 -- ready event the departures passed are those from that time on. Assumes nothing.
-use mathlib.Core.Path.{◌≡◌, refl, ◌∙◌, sym}
-use mathlib.Core.List.{List}
-use mathlib.Core.Logic.{inl, inr, ⊎_elim}
-use Prim.Native.Nat.{ℕ, ◌+◌, ◌<◌, ◌≤◌}
-use native.Mathlib.Omega.{arith}
+use Rattle.std.proofs.Common.{◌≡◌, ℕ, ◌+◌, ◌<◌, ◌≤◌, List, length, get_or, take, set, sym, refl, ◌∙◌, inl, inr, ⊎_elim, arith, length-take-le, get_or-take}
 use Rattle.std.proofs.lemmas.Grind.{common_steps}
 use Rattle.std.specs.List.{push}
-use lib.ListN.{length, get_or, set, take}
-use lib.Seq.{length-take-le, get_or-take}
 use Rattle.model.specs.Least.{none, key}
 use Rattle.model.specs.Network.{Network}
 use Rattle.model.specs.Graph.{board, transfer, first_departure}

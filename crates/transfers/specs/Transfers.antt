@@ -1,11 +1,10 @@
 -- What the filler of the transfer entries relies on and leaves. It is told no times: what holds, holds for all times by which the
 -- events are so ordered. Assumes nothing.
-use Rattle.std.specs.Prelude.{◌≡◌, List, ℕ, ◌+◌, ◌≤◌, length}
-use Rattle.model.specs.Least.{none, tab}
+use Rattle.std.specs.Prelude.{◌≡◌, List, ℕ}
+use Rattle.model.specs.Least.{tab}
 use Rattle.model.specs.Network.{Network}
 use Rattle.model.specs.Graph.{transfer, first_departure}
 use Rattle.model.specs.Shown.{shown}
-use Rattle.sorting.specs.Order.{Each}
 use Rattle.departures.specs.Events.{EventOrder}
 use Rattle.lists.specs.Lists.{Departed}
 
@@ -18,12 +17,6 @@ pub record Transfers (net : Network) (k : ℕ) (heads departed part : List ℕ) 
 -- events ordered by some times
 abbrev pub OrderedBySome : List ℕ → List ℕ → Type 0
 OrderedBySome f order = (g : List ℕ) × EventOrder (shown f g) order
-
--- room to sweep over the events of s stops and n connections: heads, all none, and departures
-pub record SweepRoom (s n : ℕ) (heads departed : List ℕ) : Type 0 where
-  pub heads_empty : Each (λ b x. x ≡ none) heads
-  pub heads_long : length heads ≡ s
-  pub departed_long : n + n ≤ length departed
 
 -- filled by the order of events
 abbrev pub TransfersBy : List ℕ → List ℕ → ℕ → List ℕ → List ℕ → List ℕ → Type 0

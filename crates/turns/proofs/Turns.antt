@@ -1,10 +1,6 @@
 -- An operation's result and the reply to it are the turn of its command. Assumes nothing.
-use mathlib.Core.Path.{◌≡◌, refl, ap}
-use mathlib.Core.List.{List}
-use Prim.Native.Nat.{ℕ, ◌≤◌}
-use native.Mathlib.Omega.{arith}
-use lib.ListN.{length, length-append, length-reverse}
-use Rattle.std.specs.Prelude.{Result, Ok, Err, MatchResult, IsOkAnd}
+use Rattle.std.proofs.Common.{◌≡◌, ℕ, ◌≤◌, List, length, IsOkAnd, Ok, Err, Result, MatchResult, refl, ap, arith, length-append}
+use lib.ListN.{length-reverse}
 use Rattle.refusals.specs.declared.Refusal.{Refusal}
 use Rattle.refusals.specs.Answers.{Answer, accepted, told}
 use Rattle.model.specs.Day.{Day, Areas}

@@ -35,9 +35,9 @@ enquiring s e = turn (line_of (say_arrival e.journey) e.answer) (state s.areas e
 
 -- the turn of a command: its operation, worked on what the desk has; of a line that is no command: its refusal
 unfoldable pub turn_of : Day → State → Option Command → Turn
-turn_of day s (Some (C.Post n c d)) = changing s L.posted (posted day s.areas n c d)
+turn_of day s (Some (C.Post n)) = changing s L.posted (posted day s.areas n.number n.connection n.delay)
 turn_of day s (Some (C.Withdraw n)) = changing s L.withdrawn (withdrawn day s.areas n)
-turn_of day s (Some (C.Enquire a b t)) = enquiring s (enquired day s.areas s.work s.journey a b t)
-turn_of day s (Some (C.Margin c d)) = turn (line_of L.margin (margined day s.areas c d)) s
+turn_of day s (Some (C.Enquire r)) = enquiring s (enquired day s.areas s.work s.journey r.from r.to r.time)
+turn_of day s (Some (C.Margin c)) = turn (line_of L.margin (margined day s.areas c.connection c.next)) s
 turn_of day s (Some (C.Why c)) = turn (line_of (say_why c) (explained day.file s.areas.notices c)) s
 turn_of day s None = turn (L.refusal unreadable 0) s

@@ -8,6 +8,7 @@ ghost use Rattle.turns.specs.Turns.{state, turn_of};
 ghost use Rattle.turns.specs.Worked.{Performed, Worked};
 
 use meanings::Command;
+use model::Lent;
 use refusals::{Reason, Refusal};
 use written_replies::Reply;
 
@@ -24,18 +25,19 @@ fn perform(
         (turn_of (day_of file.now)
         (state (lent notices.old graph.old) work.old journey.old) (Some command)) }
 {
+    // Each case has its own operation and arguments: a closure for each would be no plainer.
     match command {
-        Command::Post(number, connection, delay) => {
-            graph::post(file, notices, graph, number, connection, delay).map(Reply::Posted)
-        }
+        Command::Post(notice) => graph::post(file, notices, graph, notice).map(Reply::Posted),
         Command::Withdraw(number) => {
             graph::withdraw(file, notices, graph, number).map(Reply::Withdrawn)
         }
-        Command::Enquire(from, to, time) => {
-            search::enquire(file, notices, graph, work, journey, from, to, time).map(Reply::Arrives)
+        Command::Enquire(request) => {
+            search::enquire(file, Lent { notices, graph }, work, journey, request).map(
+                Reply::Arrives,
+            )
         }
-        Command::Margin(connection, next) => {
-            search::margin(file, notices, graph, connection, next).map(Reply::Margin)
+        Command::Margin(change) => {
+            search::margin(file, Lent { notices, graph }, change).map(Reply::Margin)
         }
         Command::Why(connection) => {
             graph::why(file, notices, connection).map(|primary| Reply::Why(connection, primary))
@@ -43,7 +45,8 @@ fn perform(
     }
 }
 
-// Works a line; the length of the answer, which stands at the front of out.
+// Works a line; the length of the answer, which stands at the front of out. The room is asked as `write_reply` asks it: a struct of out with
+// its room as a ghost field would be made by the one caller from the same fact, and taken apart here.
 pub fn work_line(
     file: &[u8],
     notices: &mut [u16],

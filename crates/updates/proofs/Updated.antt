@@ -1,12 +1,6 @@
 -- An update of the fronts leaves what it leaves of the whole areas of bytes. Assumes nothing.
-use mathlib.Core.Path.{◌≡◌, refl, sym, ◌∙◌, ap}
-use mathlib.Core.Bool.{Bool, true, true≢false}
-use mathlib.Core.List.{List, [], ◌++◌}
-use Prim.Native.Nat.{ℕ, ◌+◌, ◌-◌, ◌≤◌}
-use native.Mathlib.Omega.{arith}
-use lib.ListN.{length, take, drop, length-append, length-drop, drop_of_length-le}
-use lib.Seq.{drop-length, drop_at, take-length}
-use Rattle.std.specs.Prelude.{Result, Ok, Err, is_ok}
+use Rattle.std.proofs.Common.{◌≡◌, ℕ, ◌+◌, ◌-◌, ◌≤◌, Bool, true, List, [], ◌++◌, length, take, drop, is_ok, Ok, Err, Result, sym, refl, ap, ◌∙◌, true≢false, arith, length-append, length-drop, drop_of_length-le, drop_at}
+use lib.Seq.{drop-length, take-length}
 use Rattle.numbers.specs.Numbers.{over_bytes}
 use Rattle.numbers.proofs.Areas.{Bytes}
 use Rattle.refusals.specs.Answers.{is_accepted, Verdict, Passed, Refused}

@@ -14,6 +14,7 @@ pub fn update_bytes(file: &[u8], notices: &mut [u8], graph: &mut [u8], update: U
         (updated (day_of file.now) (lent_bytes notices.old graph.old) update)
         notices.old graph.old result notices.new graph.new }
 {
+    // The library has no heap; each array is lent by itself, so that a struct of them would be no plainer.
     let mut n = [0u16; model::NOTICES_LENGTH];
     let mut g = [0u16; model::MOST_GRAPH];
     let (n, g) = fronts::read_both(notices, graph, &mut n, &mut g);

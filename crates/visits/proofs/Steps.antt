@@ -1,13 +1,5 @@
 -- The steps of the code, in terms of lists: an offer, a visit and a turn. Assumes nothing.
-use mathlib.Core.Path.{◌≡◌, sym}
-use mathlib.Core.Logic.{⊎_elim}
-use mathlib.Core.Bool.{true, false}
-use mathlib.Core.List.{List}
-use Prim.Native.Nat.{ℕ, min, ◌<◌, ◌≤◌}
-use native.Mathlib.Omega.{arith}
-use borrow.Author.Tests.{lt-ltb, le-ltb}
-use lib.Dec.{ltb}
-use lib.ListN.{length, get_or, set, length-set}
+use Rattle.std.proofs.Common.{◌≡◌, ℕ, ◌<◌, ◌≤◌, min, true, false, ltb, List, length, get_or, set, sym, ⊎_elim, arith, length-set, le-ltb, lt-ltb}
 use lib.Seq.{set-get_or, set_out}
 use Rattle.model.specs.Least.{none}
 use Rattle.model.specs.Network.{Network}

@@ -1,6 +1,5 @@
 -- What an enquiry found that was not searched for: nothing. Assumes nothing.
-use mathlib.Core.Path.{◌≡◌, refl}
-use mathlib.Core.Bool.{false, true≢false}
+use Rattle.std.proofs.Common.{◌≡◌, false, refl, true≢false}
 use Rattle.refusals.specs.Answers.{Answer, accepted, refused}
 use Rattle.model.specs.declared.Arrival.{Arrival}
 use Rattle.written_enquiries.specs.Found.{is_searched, journey_length}

@@ -1,4 +1,5 @@
-// What the desk says to a command, and the line of it; the line of a building's answer.
+// What the desk says to a command, and the line of it; the line of a building's answer. Room is asked by a clause, as in `lines`: the area is
+// written, see `model::Lent`.
 #![tactic(auto, unfolding(lines::specs::Lines::text_of))]
 
 ghost use Rattle.std.specs.Prelude.{◌≤◌, length};

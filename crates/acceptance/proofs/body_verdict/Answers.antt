@@ -10,4 +10,4 @@ returns-in_err-stops_verdict c =
 
 pub returns : goal.returns
 returns c =
-    rw (← c.stops-stops.ensures, ← c.in_ok-stops_verdict.ensures, ← c.connections.ensures, or_passed) c.connections_verdict.ensures
+    rw (← c.stops-stops.ensures, ← c.in_ok-stops_verdict.ensures, ← c.connections-connections.ensures, or_passed) c.connections_verdict.ensures

@@ -1,7 +1,5 @@
 -- `acceptance::check` meets its contract. Assumes nothing.
-use mathlib.Core.Path.{sym, ◌∙◌}
-use Prim.Native.Nat.{◌≤◌}
-use lib.ListN.{length}
+use Rattle.std.proofs.Common.{◌≤◌, length, sym}
 use Rattle.timetable.specs.File.{header_length}
 use Rattle.timetable.proofs.Accepted.{accepted_iff, room_for_header}
 use Rattle.std.proofs.lemmas.Result.{err_from_is_err_and}

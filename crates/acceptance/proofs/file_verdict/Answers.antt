@@ -1,5 +1,5 @@
 -- `acceptance::file_verdict` meets its contract. Assumes nothing.
-use mathlib.Core.Path.{sym, ◌∙◌}
+use Rattle.std.proofs.Common.{sym}
 use Rattle.timetable.specs.Check.{file_verdict}
 use Rattle.timetable.proofs.Rules.{header_past}
 use Rattle.std.proofs.lemmas.Result.{err_from_is_err_and}

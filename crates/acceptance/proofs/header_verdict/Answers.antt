@@ -1,6 +1,5 @@
 -- `acceptance::header_verdict` meets its contract: at each return, which refusals are past. Assumes nothing.
-use mathlib.Core.Path.{sym, ◌∙◌}
-use native.Mathlib.Omega.{arith}
+use Rattle.std.proofs.Common.{sym, ◌∙◌, arith}
 use Rattle.timetable.specs.Refusals.{Past1, Past2, Past3, Past4, Past5}
 use Rattle.timetable.proofs.Tests.{not_both}
 use Rattle.timetable.proofs.Rules.{header1, header2, header3, header4, header5, header6, header_passes}

@@ -1,7 +1,5 @@
 -- `acceptance::stops_verdict` meets its contract. The invariant: every stop passed by passes. Assumes nothing.
-use borrow.Author.Rules.{rules}
-use mathlib.Core.Path.{sym}
-use native.Mathlib.Omega.{arith}
+use Rattle.std.proofs.Common.{sym, arith, rules}
 use Rattle.refusals.specs.Answers.{first_below}
 use Rattle.refusals.specs.RefusalNumber as refusal
 use Rattle.timetable.specs.Check.{stop_verdict}

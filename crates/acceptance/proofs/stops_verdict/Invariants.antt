@@ -1,6 +1,5 @@
 -- `acceptance::stops_verdict` meets its contract. The invariant: every stop passed by passes. Assumes nothing.
-use mathlib.Core.Path.{◌≡◌}
-use Prim.Native.Nat.{◌≤◌, ◌-◌}
+use Rattle.std.proofs.Common.{◌≡◌, ◌≤◌}
 use Rattle.refusals.specs.Answers.{first_below, Passed}
 use Rattle.timetable.specs.Check.{stop_verdict}
 use Rattle.acceptance.proofs.stops_verdict.Given as goal

@@ -1,5 +1,5 @@
 -- `arrivals::put_journey` meets its contract: the first connections are written. Assumes nothing.
-use native.Mathlib.Omega.{arith}
+use Rattle.std.proofs.Common.{arith}
 use Rattle.arrivals.proofs.Lengths.{journey_turn}
 use Rattle.decimals.proofs.Written.{then_written}
 use Rattle.arrivals.proofs.put_journey.Goals as goal

@@ -1,5 +1,5 @@
 -- `arrivals::put_journey` meets its contract: the first connections are written. Assumes nothing.
-use lib.ListN.{take}
+use Rattle.std.proofs.Common.{take}
 use Rattle.arrivals.specs.Arrivals.{journey_text}
 use Rattle.decimals.specs.Written.{Written}
 use Rattle.arrivals.proofs.put_journey.Given as goal

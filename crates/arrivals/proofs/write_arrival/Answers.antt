@@ -1,5 +1,5 @@
 -- `arrivals::write_arrival` meets its contract: the parts of the line, one after the other. Assumes nothing.
-use native.Mathlib.Omega.{arith}
+use Rattle.std.proofs.Common.{arith}
 use Rattle.arrivals.specs.Arrivals.{arrives_line}
 use Rattle.decimals.proofs.Written.{then_written}
 use Rattle.arrivals.proofs.Lengths.{arrives_room}

@@ -1,6 +1,5 @@
 -- `asks::withdrawal_verdict` meets its contract. Assumes nothing.
-use borrow.Author.Tests.{eq-eqb, ne_eqb}
-use Rattle.std.proofs.Common.{ap, not}
+use Rattle.std.proofs.Common.{not, ap, eq-eqb, ne_eqb}
 use Rattle.asks.proofs.withdrawal_verdict.Goals as goal
 
 pub returns-then-number-eq-NO_NUMBER : goal.returns-then-number-eq-NO_NUMBER

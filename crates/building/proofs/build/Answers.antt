@@ -1,9 +1,7 @@
 -- `building::build` meets its contract. Assumes nothing.
-use mathlib.Core.Path.{◌≡◌, sym, ◌∙◌}
-use native.Mathlib.Omega.{arith}
+use Rattle.std.proofs.Common.{◌≡◌, sym}
 use Rattle.refusals.specs.Answers.{Passed}
 use Rattle.timetable.specs.Accepted.{Opened}
-use Rattle.timetable.proofs.Accepted.{accepted_iff}
 use Rattle.model.specs.Day.{Day, Areas, day_of, lent}
 use Rattle.model.specs.Parts.{room_verdict}
 use Rattle.model.proofs.Operations.{built_refused, built_done}

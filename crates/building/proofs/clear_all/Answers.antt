@@ -1,5 +1,5 @@
 -- `building::clear_all` meets its contract. Assumes nothing.
-use mathlib.Core.List.{[]}
+use Rattle.std.proofs.Common.{[]}
 use Rattle.timetable.specs.File.{connections}
 use Rattle.model.proofs.Runs.{none_formed}
 use Rattle.model.specs.Notices.{WellFormed}
@@ -18,9 +18,12 @@ pub fill_graph-requires : goal.fill_graph-requires
 fill_graph-requires c =
     let day : Day = day_of c.args.timetable.file.now in
     let areas : Areas = lent c.args.notices.now c.args.graph.now in
-    let formed : WellFormed (connections c.args.timetable.file.now) [] = none_formed (connections c.args.timetable.file.now) in
-    let standing = written_standing (connections c.args.timetable.file.now) [] _ _ c.clear_rows.ensures formed in
-    (standing.0, (room_long day areas c.requires).1)
+    (room_long day areas c.requires).1
+
+pub invariant_of-fill_graph : goal.invariant_of-fill_graph
+invariant_of-fill_graph c =
+    let n = c.args.timetable.connections in
+    record { standing = (written_standing n [] _ _ c.clear_rows.ensures (none_formed n)).0 }
 
 pub returns : goal.returns
 returns c =

@@ -1,5 +1,5 @@
 -- `byte_causes::why_bytes` meets its contract: why by the front is why by the area. Assumes nothing.
-use Rattle.std.proofs.Common.{ap, sym, ◌∙◌, arith}
+use Rattle.std.proofs.Common.{sym, ap, ◌∙◌, arith}
 use Rattle.numbers.specs.Numbers.{numbers_of}
 use Rattle.model.specs.Notices.{notices_length}
 use Rattle.model.specs.Operations.{explained}

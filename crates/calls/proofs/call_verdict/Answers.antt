@@ -7,4 +7,4 @@ returns-in-Post c =
 
 pub returns-in-Withdraw : goal.returns-in-Withdraw
 returns-in-Withdraw c =
-    rw c.in-Withdraw.is c.withdrawal_verdict.ensures
+    rw c.in-Withdraw.is (rw c.counted.ensures at c.withdrawal_verdict.ensures)

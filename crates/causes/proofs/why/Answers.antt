@@ -1,15 +1,12 @@
 -- `causes::why` meets its contract: the file is refused, or the notice area or the connection is, or the primary delay is told.
 -- Assumes nothing.
-use mathlib.Core.Path.{◌≡◌, sym, ◌∙◌, ap}
-use native.Mathlib.Omega.{arith}
+use Rattle.std.proofs.Common.{sym, arith}
 use Rattle.timetable.specs.File.{connections}
 use Rattle.timetable.specs.Accepted.{Opened}
-use Rattle.refusals.specs.Answers.{told}
-use Rattle.timetable.proofs.Accepted.{accepted_iff}
-use Rattle.timetable.proofs.Answered.{opened_by, refused_by}
-use Rattle.model.specs.Operations.{why_verdict, explained}
+use Rattle.model.specs.Operations.{explained}
 use Rattle.model.proofs.Why.{why_passed}
 use Rattle.std.proofs.lemmas.Result.{err_from_is_err_and}
+use Rattle.model.proofs.Areas.{standing_fits}
 use Rattle.causes.proofs.why.Goals as goal
 
 pub returns-in_err-timetable : goal.returns-in_err-timetable
@@ -24,7 +21,15 @@ primary_delay-requires c =
     rw c.in_ok-timetable.ensures.of_the_file at c.in_ok-timetable.timetable.opened in
     let a = c.args in
     let p = why_passed (connections a.file.now) a.notices.now a.connection (rw (← opened.connections) (sym c.in_ok-why_verdict.ensures)) in
-    ((connections a.file.now, p.rows), omega (arith, p.exists, opened.timetable.few))
+    omega (arith, p.exists, opened.timetable.few)
+
+pub invariant_of-primary_delay : goal.invariant_of-primary_delay
+invariant_of-primary_delay c =
+    let opened : Opened c.args.file.now c.in_ok-timetable.timetable.stops c.in_ok-timetable.timetable.connections =
+    rw c.in_ok-timetable.ensures.of_the_file at c.in_ok-timetable.timetable.opened in
+    let a = c.args in
+    let p = why_passed (connections a.file.now) a.notices.now a.connection (rw (← opened.connections) (sym c.in_ok-why_verdict.ensures)) in
+    record { fits = record { long = p.rows.long; fits = standing_fits (connections a.file.now) a.notices.now p.rows } }
 
 pub returns-in_err-why_verdict : goal.returns-in_err-why_verdict
 unfolding explained

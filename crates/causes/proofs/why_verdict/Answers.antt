@@ -1,8 +1,6 @@
 -- The room, the rows, the connection.
-use mathlib.Core.Path.{◌≡◌, sym, ◌∙◌}
-use Prim.Native.Nat.{◌<◌, ◌≤◌}
-use borrow.Author.Tests.{lt-ltb, le-ltb, le-leb, lt-leb}
-use Rattle.model.specs.Notices.{rows_verdict}
+use Rattle.std.proofs.Common.{◌<◌, ◌≤◌, le-ltb, lt-ltb, le-leb}
+use borrow.Author.Tests.{lt-leb}
 use Rattle.model.specs.Operations.{why_verdict}
 use Rattle.std.proofs.lemmas.Result.{err_from_is_err_and}
 use Rattle.causes.proofs.why_verdict.Goals as goal

@@ -1,7 +1,5 @@
 -- `change_lists::write_changes` meets its contract: each turn writes the line of one stop more. Assumes nothing.
-use mathlib.Core.Path.{◌≡◌, refl, ap, ◌∙◌}
-use native.Mathlib.Omega.{arith}
-use lib.ListN.{length, length-append}
+use Rattle.std.proofs.Common.{◌≡◌, length, refl, ap, ◌∙◌, arith, length-append}
 use lib.Seq.{length-sets}
 use Rattle.decimals.proofs.Written.{then_written}
 use Rattle.labels.proofs.Texts.{line_written}

@@ -1,5 +1,5 @@
 -- `change_lists::write_changes` meets its contract: each turn writes the line of one stop more. Assumes nothing.
-use lib.ListN.{take}
+use Rattle.std.proofs.Common.{take}
 use Rattle.numbers.specs.Numbers.{numbers_of}
 use Rattle.decimals.specs.Written.{Written}
 use Rattle.gtfs.specs.Files.{transfers_in}

@@ -1,5 +1,5 @@
 -- `checks::areas_verdict` meets its contract. Assumes nothing.
-use mathlib.Core.Path.{sym, ◌∙◌}
+use Rattle.std.proofs.Common.{sym}
 use Rattle.std.proofs.lemmas.Result.{err_from_is_err_and}
 use Rattle.checks.proofs.areas_verdict.Goals as goal
 

@@ -1,5 +1,5 @@
 -- `checks::contents_verdict` meets its contract. Assumes nothing.
-use mathlib.Core.Path.{◌≡◌, sym, ◌∙◌}
+use Rattle.std.proofs.Common.{◌≡◌, sym}
 use Rattle.timetable.specs.File.{connections}
 use Rattle.refusals.specs.Answers.{Passed}
 use Rattle.model.specs.Notices.{rows_verdict}
@@ -12,39 +12,41 @@ use Rattle.checks.proofs.contents_verdict.Goals as goal
 pub check_rows-requires : goal.check_rows-requires
 check_rows-requires c =
     let day : Day = day_of c.args.timetable.file.now in
-    let areas : Areas = lent c.args.notices.now c.args.graph.now in
+    let areas : Areas = lent c.args.areas.notices.now c.args.areas.graph.now in
     (room_long day areas c.requires).0
 
 pub returns-in_err-check_rows : goal.returns-in_err-check_rows
 returns-in_err-check_rows c =
     let p = err_from_is_err_and c.from_residual.result c.from_residual.ensures.1 in
     let day : Day = day_of c.args.timetable.file.now in
-    let areas : Areas = lent c.args.notices.now c.args.graph.now in
+    let areas : Areas = lent c.args.areas.notices.now c.args.areas.graph.now in
     let refuses = sym c.in_err-check_rows.ensures in
     rw (p.1, p.2) (sym (contents_refused day areas _ _ (rw (← c.args.timetable.opened.connections) refuses)))
 
 pub is_graph-requires : goal.is_graph-requires
 is_graph-requires c =
     let day : Day = day_of c.args.timetable.file.now in
-    let areas : Areas = lent c.args.notices.now c.args.graph.now in
-    let rows_right : let a = c.args in rows_verdict (connections a.timetable.file.now) a.notices.now ≡ Passed = rw (← c.args.timetable.opened.connections) (sym c.in_ok-check_rows.ensures) in
-    let room = room_long day areas c.requires in (
-      rows_passed (connections c.args.timetable.file.now) c.args.notices.now room.0 rows_right,
-      room.1,
-    )
+    let areas : Areas = lent c.args.areas.notices.now c.args.areas.graph.now in
+    (room_long day areas c.requires).1
+
+pub invariant_of-outlook : goal.invariant_of-outlook
+invariant_of-outlook c =
+    let day : Day = day_of c.args.timetable.file.now in
+    let areas : Areas = lent c.args.areas.notices.now c.args.areas.graph.now in
+    record { standing = rows_passed c.args.timetable.connections c.args.areas.notices.now (room_long day areas c.requires).0 (sym c.in_ok-check_rows.ensures) }
 
 pub returns-then-is_graph : goal.returns-then-is_graph
 returns-then-is_graph c =
     let day : Day = day_of c.args.timetable.file.now in
-    let areas : Areas = lent c.args.notices.now c.args.graph.now in
-    let rows_right : let a = c.args in rows_verdict (connections a.timetable.file.now) a.notices.now ≡ Passed = rw (← c.args.timetable.opened.connections) (sym c.in_ok-check_rows.ensures) in
+    let areas : Areas = lent c.args.areas.notices.now c.args.areas.graph.now in
+    let rows_right : let a = c.args in rows_verdict (connections a.timetable.file.now) a.areas.notices.now ≡ Passed = rw (← c.args.timetable.opened.connections) (sym c.in_ok-check_rows.ensures) in
     let ends = contents_end day areas rows_right in
     rw (ends, ← c.is_graph.ensures, c.if-is_graph.true)
 
 pub returns : goal.returns
 returns c =
     let day : Day = day_of c.args.timetable.file.now in
-    let areas : Areas = lent c.args.notices.now c.args.graph.now in
-    let rows_right : let a = c.args in rows_verdict (connections a.timetable.file.now) a.notices.now ≡ Passed = rw (← c.args.timetable.opened.connections) (sym c.in_ok-check_rows.ensures) in
+    let areas : Areas = lent c.args.areas.notices.now c.args.areas.graph.now in
+    let rows_right : let a = c.args in rows_verdict (connections a.timetable.file.now) a.areas.notices.now ≡ Passed = rw (← c.args.timetable.opened.connections) (sym c.in_ok-check_rows.ensures) in
     let ends = contents_end day areas rows_right in
     rw (ends, ← c.is_graph.ensures, c.if-is_graph.false)

@@ -1,6 +1,4 @@
 -- `checks::examine` meets its contract. Assumes nothing.
-use mathlib.Core.Path.{sym, ◌∙◌}
-use Rattle.model.specs.Day.{Day, Areas, day_of, lent}
 use Rattle.std.proofs.lemmas.Result.{err_from_is_err_and}
 use Rattle.checks.proofs.examine.Goals as goal
 

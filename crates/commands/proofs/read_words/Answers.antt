@@ -1,6 +1,5 @@
 -- `commands::read_words` meets its contract: the first word, and the numbers word by word. Assumes nothing.
-use mathlib.Core.Path.{refl, sym, ◌∙◌}
-use Rattle.std.proofs.Common.{rules, tests}
+use Rattle.std.proofs.Common.{sym, refl, ◌∙◌, rules, tests}
 use Rattle.commands.proofs.Words.{word_given, said_first, said_next, said_none}
 use Rattle.commands.proofs.read_words.Goals as goal
 

@@ -1,5 +1,5 @@
 -- `connection_tests::breaks_off` meets its contract. Assumes nothing.
-use borrow.Author.Tests.{eq-eqb, ne_eqb}
+use Rattle.std.proofs.Common.{eq-eqb, ne_eqb}
 use Rattle.connection_tests.proofs.breaks_off.Goals as goal
 
 pub returns-then-from-to : goal.returns-then-from-to

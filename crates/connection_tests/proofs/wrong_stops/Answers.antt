@@ -1,7 +1,6 @@
 -- `connection_tests::wrong_stops` meets its contract. Assumes nothing.
-use Prim.Native.Nat.{◌<◌, ◌≤◌}
-use native.Mathlib.Omega.{arith}
-use borrow.Author.Tests.{le-leb, lt-leb}
+use Rattle.std.proofs.Common.{◌<◌, ◌≤◌, arith, le-leb}
+use borrow.Author.Tests.{lt-leb}
 use Rattle.timetable.specs.File.{stops, from, to}
 use Rattle.timetable.specs.Check.{wrong_stops}
 use Rattle.connection_tests.proofs.wrong_stops.Goals as goal

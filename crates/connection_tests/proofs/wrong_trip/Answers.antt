@@ -1,6 +1,5 @@
 -- `connection_tests::wrong_trip` meets its contract. Assumes nothing.
-use mathlib.Core.Path.{sym}
-use native.Mathlib.Omega.{arith}
+use Rattle.std.proofs.Common.{sym, arith}
 use Rattle.timetable.specs.Check.{wrong_trip}
 use Rattle.connection_tests.proofs.Next.{trip_lower, trip_higher}
 use Rattle.connection_tests.proofs.wrong_trip.Goals as goal

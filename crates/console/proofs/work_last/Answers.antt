@@ -1,7 +1,5 @@
 -- The answer lies in out, as that to a line of no byte does. Assumes nothing.
-use mathlib.Core.Path.{refl, sym}
-use mathlib.Core.List.{[]}
-use lib.Seq.{length-take-le}
+use Rattle.std.proofs.Common.{[], sym, refl, length-take-le}
 use Rattle.model.specs.Day.{day_of, lent}
 use Rattle.cuts.specs.Cut.{has}
 use Rattle.turns.specs.Turns.{state}

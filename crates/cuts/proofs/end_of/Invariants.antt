@@ -1,7 +1,5 @@
 -- `cuts::end_of` meets its contract: the piece ends where what is left of it at i ends. Assumes nothing.
-use mathlib.Core.Path.{◌≡◌}
-use Prim.Native.Nat.{◌+◌, ◌-◌, ◌≤◌}
-use lib.ListN.{length, drop}
+use Rattle.std.proofs.Common.{◌≡◌, ◌+◌, ◌-◌, ◌≤◌, length, drop}
 use Rattle.cuts.specs.Cut.{before}
 use Rattle.cuts.proofs.end_of.Given as goal
 

@@ -1,8 +1,6 @@
 -- `decimals::read_number` meets its contract: the bytes from the index on, after digits of the value so far, are the word's
 -- number. Assumes nothing.
-use mathlib.Core.Path.{◌≡◌}
-use Prim.Native.Nat.{◌^◌, ◌<◌}
-use lib.ListN.{drop}
+use Rattle.std.proofs.Common.{◌≡◌, ◌^◌, ◌<◌, drop}
 use Rattle.decimals.specs.Decimal.{decimal}
 use Rattle.decimals.proofs.Reading.{decimal_after}
 use Rattle.decimals.proofs.read_number.Given as goal

@@ -1,6 +1,5 @@
 -- What the rows that are left make of the primary delays so far.
-use mathlib.Core.Path.{◌≡◌}
-use lib.ListN.{length}
+use Rattle.std.proofs.Common.{◌≡◌, length}
 use Rattle.std.specs.Slice.Iter.{chunks_exact_rest, chunks_exact_size}
 use Rattle.model.specs.Notices.{width}
 use Rattle.delays.proofs.Walk.{Walks}

@@ -4,4 +4,4 @@ use Rattle.delays.proofs.standing_delays.Goals as goal
 
 pub returns : goal.returns
 returns c =
-    rw (← (rows_standing c.requires.0.0 c.args.notices.now c.requires.0.1)) c.primary_delays.ensures
+    rw (← (rows_standing c.args.counted.notices.now c.args.counted.fits)) c.primary_delays.ensures

@@ -1,7 +1,5 @@
 -- The delay that prevails, in one number.
-use mathlib.Core.Path.{◌≡◌, refl, sym, ◌∙◌}
-use mathlib.Core.Bool.{true, false}
-use native.Mathlib.Omega.{arith}
+use Rattle.std.proofs.Common.{◌≡◌, true, false, sym, refl, ◌∙◌, arith}
 use Rattle.model.specs.Times.{given_by, prevails}
 use Rattle.model.proofs.Primary.{with_prevailing, with_yielding}
 use Rattle.delays.specs.Delays.{primary_in}

@@ -10,12 +10,12 @@ loop-end-init c =
     let a = c.args in
     talked_none (day_of a.file.now) (state (lent a.notices.now a.graph.now) a.work.now a.journey.now) a.block.now a.out.now
 
-pub slice_bounds-answer-end : goal.slice_bounds-answer-end
-slice_bounds-answer-end c =
+pub slice_bounds-work_line-end-in-Some : goal.slice_bounds-work_line-end-in-Some
+slice_bounds-work_line-end-in-Some c =
     let found = c.in-Some.ensures in
     stop_within c.args.block.now c.loop-end.at c.in-Some.end found.1 found.0
 
 pub loop-end-preserved : goal.loop-end-preserved
 loop-end-preserved c =
     let found = c.in-Some.ensures in
-    talked_turn c.loop-end.invariant c.in-Some.end found.1 found.0 c.answer-size.ensures
+    talked_turn c.loop-end.invariant c.in-Some.end found.1 found.0 c.work_line-size.ensures

@@ -1,6 +1,5 @@
 -- `dialogue::work_block` meets its contract: the lines up to `at` are worked, and each turn leaves fewer bytes. Assumes nothing.
-use Prim.Native.Nat.{◌-◌}
-use lib.ListN.{length}
+use Rattle.std.proofs.Common.{◌-◌, length}
 use Rattle.model.specs.Day.{day_of, lent}
 use Rattle.turns.specs.Turns.{state}
 use Rattle.dialogue.specs.Worked.{Talked}

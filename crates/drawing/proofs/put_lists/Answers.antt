@@ -1,22 +1,30 @@
--- The arrays have room, and start as none. Assumes nothing.
-use Rattle.std.proofs.Common.{◌*◌, ◌≤◌, arith}
-use Rattle.std.proofs.Math.ListN.{length-replicate}
-use Rattle.timetable.specs.Check.{max_stops, max_connections}
-use Rattle.model.specs.Least.{none}
-use Rattle.boards.proofs.Fronts.{own_length}
-use Rattle.sorting.proofs.Sorting.{own_each, own_front_each}
+-- The parts are the departure lists of what the area shows. Assumes nothing.
+use Rattle.std.proofs.Common.{◌≡◌, ◌+◌, ◌*◌, sym, ◌∙◌, arith, length-take-le, rules}
+use Rattle.transfers.proofs.Passing.{departed_front}
+use Rattle.drawing.proofs.Lent.{put_part}
+use Rattle.drawing.proofs.Drawing.{parts_drawn}
 use Rattle.drawing.proofs.put_lists.Goals as goal
 
-pub order_events-requires : goal.order_events-requires
-order_events-requires c =
-    record { room = rw length-replicate (omega arith); free = own_each (2 * max_connections) none }
+pub slice_bounds-departed-end : goal.slice_bounds-departed-end
+slice_bounds-departed-end c =
+    let found = c.fill_transfers-k.ensures c.args.graph.now c.order_events.ensures in
+    omega (arith, found.departures.falling.room)
 
-pub put_parts-requires-clause-sweep_room : goal.put_parts-requires-clause-sweep_room
-put_parts-requires-clause-sweep_room c =
-    let stops = c.args.timetable.stops in
-    let few : stops ≤ max_stops = omega arith in
-    record {
-      heads_empty = own_front_each stops max_stops none few;
-      heads_long = own_length stops max_stops none few;
-      departed_long = rw length-replicate (omega arith);
-    }
+pub slice_bounds-fill_waiting-end : goal.slice_bounds-fill_waiting-end
+slice_bounds-fill_waiting-end c =
+    let found = c.fill_transfers-k.ensures c.args.graph.now c.order_events.ensures in
+    sym (length-take-le _ _ (omega (arith, found.departures.falling.room)))
+
+pub fill_waiting-requires : goal.fill_waiting-requires
+fill_waiting-requires c =
+    let found = c.fill_transfers-k.ensures c.args.graph.now c.order_events.ensures in
+    ((c.args.graph.now, departed_front found), search rules)
+
+pub returns : goal.returns
+returns c =
+    let a = c.args in
+    let n = a.timetable.connections in
+    let found = c.fill_transfers-k.ensures a.graph.now c.order_events.ensures in
+    let copied : c.copy_from_slice.new.self ≡ c.fill_transfers-k.new.heads = search rules in
+    parts_drawn a.timetable.file.now a.timetable.stops n a.timetable.opened a.graph.now c.requires.1 found.transfer_entries (copied ∙ found.first_departures)
+    (c.fill_waiting.ensures a.graph.now (departed_front found)) (put_part _ _ (3 * n) (4 * n) (omega arith)) (put_part _ _ (4 * n) (4 * n + a.timetable.stops) (omega arith)) (put_part _ _ (2 * n) (3 * n) (omega arith))

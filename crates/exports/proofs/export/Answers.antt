@@ -1,6 +1,5 @@
 -- `exports::export` meets its contract: the file's refusal, a refusal for want of room, or the text. Assumes nothing.
-use mathlib.Core.Path.{sym}
-use native.Mathlib.Omega.{arith}
+use Rattle.std.proofs.Common.{sym, arith}
 use Rattle.gtfs.specs.Rows.{text_of}
 use Rattle.gtfs.specs.Conversions.{exported}
 use Rattle.gtfs.proofs.Conversions.{converted_refused, converted_short, converted_done}

@@ -1,8 +1,8 @@
 -- `exports::put_rows` meets its contract: one row, or two where a trip begins. Assumes nothing.
-use mathlib.Core.Path.{sym, ◌∙◌}
+use Rattle.std.proofs.Common.{sym, ◌∙◌}
 use Rattle.decimals.proofs.Written.{then_written}
-use Rattle.gtfs.proofs.Rows.{begin_text, stay_text}
-use Rattle.exports.proofs.Room.{first_fits, second_fits, only_fits}
+use Rattle.gtfs.proofs.Rows.{begin_text}
+use Rattle.exports.proofs.Room.{first_fits, second_fits}
 use Rattle.exports.proofs.put_rows.Goals as goal
 
 pub put_row-next-requires : goal.put_row-next-requires
@@ -19,12 +19,3 @@ returns-then-before-eq0 c =
     let h = begin_text c.args.timetable.file.now c.args.c (sym c.requires.place ∙ c.if-before-eq0.true) in
     rw (h, ← c.start_row.ensures, ← c.end_row-last.ensures)
     (then_written c.put_row-next.ensures c.put_row.ensures)
-
-pub put_row-requires-2 : goal.put_row-requires-2
-put_row-requires-2 c =
-    only_fits c.args.timetable.opened c.requires c.if-before-eq0.false c.end_row-last.ensures
-
-pub returns : goal.returns
-returns c =
-    let h = stay_text c.args.timetable.file.now c.args.c (λ z. c.if-before-eq0.false (c.requires.place ∙ z)) in
-    rw (h, ← c.end_row-last.ensures) c.put_row-2.ensures

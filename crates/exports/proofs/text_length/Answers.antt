@@ -1,16 +1,8 @@
 -- `exports::text_length` meets its contract: the first line and the rows of the first c connections. Assumes nothing.
-use Prim.Native.Nat.{◌+◌}
-use mathlib.Core.Path.{◌≡◌, refl, sym, ap, ◌∙◌}
-use native.Mathlib.Omega.{arith}
-use lib.ListN.{length}
+use Rattle.std.proofs.Common.{◌≡◌, ◌+◌, sym, arith}
 use Rattle.timetable.specs.File.{connections}
-use Rattle.gtfs.proofs.Rows.{up_to_none, length_all, length_next, up_to_short}
-use Rattle.file_rows.proofs.Positions.{last_next}
+use Rattle.gtfs.proofs.Rows.{length_all, length_next, up_to_short}
 use Rattle.exports.proofs.text_length.Goals as goal
-
-pub loop-c-init : goal.loop-c-init
-loop-c-init c =
-    (omega (arith, ap length (up_to_none c.args.timetable.file.now)), refl)
 
 pub overflow_add-size : goal.overflow_add-size
 overflow_add-size c =
@@ -19,13 +11,6 @@ overflow_add-size c =
     let few = o.timetable.few in
     let short = up_to_short f o.timetable (c.loop-c.c + 1) (omega (arith, c.loop-c-test.true, o.connections)) in
     record { fits = omega (arith, c.loop-c.invariant.0, c.rows_length-size.ensures, length_next f c.loop-c.c, short) }
-
-pub loop-c-preserved : goal.loop-c-preserved
-loop-c-preserved c =
-    let f = c.args.timetable.file.now in (
-      omega (arith, c.loop-c.invariant.0, c.rows_length-size.ensures, length_next f c.loop-c.c),
-      c.next_position-position.ensures ∙ sym (last_next f c.loop-c.c),
-    )
 
 pub returns : goal.returns
 returns c =

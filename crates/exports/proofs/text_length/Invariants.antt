@@ -1,7 +1,5 @@
 -- `exports::text_length` meets its contract: the first line and the rows of the first c connections. Assumes nothing.
-use mathlib.Core.Path.{◌≡◌}
-use Prim.Native.Nat.{◌+◌}
-use lib.ListN.{length}
+use Rattle.std.proofs.Common.{◌≡◌, ◌+◌, length}
 use Rattle.gtfs.specs.StopTimes.{header_text}
 use Rattle.gtfs.proofs.Rows.{rows_up_to}
 use Rattle.file_rows.specs.Positions.{last_position}

@@ -1,6 +1,5 @@
 -- `exports::write_text` meets its contract: the first line, then the rows of the first c connections. Assumes nothing.
-use mathlib.Core.Path.{◌≡◌}
-use lib.ListN.{length}
+use Rattle.std.proofs.Common.{◌≡◌, length}
 use Rattle.decimals.specs.Written.{Written}
 use Rattle.gtfs.proofs.Rows.{rows_up_to}
 use Rattle.file_rows.specs.Positions.{last_position}

@@ -1,10 +1,8 @@
 -- `feeds::read_body` meets its contract: before each line, what is left to do gives what the whole gives. Assumes nothing.
-use mathlib.Core.Path.{◌≡◌}
-use Prim.Native.Nat.{◌+◌}
-use native.Mathlib.Omega.{arith}
-use Rattle.std.proofs.Common.{Some, None, Err}
+use Rattle.std.proofs.Common.{◌≡◌, ◌+◌, Some, None, Err, arith}
 use Rattle.feeds.proofs.Turns.{reached_first, reached_next, reached_wrong}
 use Rattle.feeds.proofs.Verdicts.{row_wrong, alone_wrong, rows_right}
+use Rattle.refusals.specs.declared.Reason.TheVariants as R
 use Rattle.feeds.proofs.read_body.Goals as goal
 
 pub loop-at-init : goal.loop-at-init
@@ -13,7 +11,7 @@ loop-at-init c = reached_first c.args.text.now c.args.area.now c.requires
 pub returns-in_err-progress : goal.returns-in_err-progress
 returns-in_err-progress c =
     let n : c.take_row.result ≡ None = grind arith in
-    let e : c.from_residual.result ≡ Err (c.loop-at.progress.row + 1) = grind arith in
+    let e : c.from_residual.result ≡ Err (R.WrongTextRow, c.loop-at.progress.row + 1) = grind arith in
     rw e
     (row_wrong c.args.text.now c.args.area.now c.take_row.new.area c.requires.header c.loop-at.progress.row
     (reached_wrong c.loop-at.invariant (omega arith) c.take_row.ensures n))

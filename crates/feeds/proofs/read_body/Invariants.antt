@@ -1,6 +1,5 @@
 -- `feeds::read_body` meets its contract: before each line, what is left to do gives what the whole gives. Assumes nothing.
-use Prim.Native.Nat.{◌-◌}
-use lib.ListN.{length}
+use Rattle.std.proofs.Common.{◌-◌, length}
 use Rattle.feeds.proofs.Turns.{Reached}
 use Rattle.feeds.proofs.read_body.Given as goal
 

@@ -1,5 +1,5 @@
 -- What is read stays within the area, and each turn leaves less room. Assumes nothing.
-use Rattle.std.proofs.Common.{length, ◌-◌, ◌≤◌}
+use Rattle.std.proofs.Common.{◌-◌, ◌≤◌, length}
 use Rattle.files.proofs.read_all.Given as goal
 
 abbrev pub invariant-loop-n : goal.invariant-loop-n

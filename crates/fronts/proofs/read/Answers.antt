@@ -1,5 +1,5 @@
 -- `fronts::read` meets its contract. Assumes nothing.
-use Rattle.std.proofs.Common.{◌≡◌, ℕ, List, length, take, length-take, ◌∙◌, arith}
+use Rattle.std.proofs.Common.{◌≡◌, ℕ, List, length, take, ◌∙◌, arith, length-take}
 use Rattle.numbers.specs.Numbers.{numbers_of}
 use Rattle.numbers.proofs.Areas.{length_numbers, over_take, front_read}
 use Rattle.fronts.proofs.read.Goals as goal

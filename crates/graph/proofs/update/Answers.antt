@@ -1,5 +1,5 @@
 -- `graph::update` meets its contract. Assumes nothing.
-use mathlib.Core.Path.{◌≡◌, sym}
+use Rattle.std.proofs.Common.{◌≡◌, sym}
 use Rattle.timetable.specs.File.{connections}
 use Rattle.refusals.specs.Answers.{Passed}
 use Rattle.timetable.specs.Accepted.{Opened}
@@ -10,6 +10,7 @@ use Rattle.model.proofs.Operations.{open_refuses, own_refuses, accepts}
 use Rattle.model.proofs.Ready.{open_ready}
 use Rattle.calls.specs.Call.{asks_of, standing_after, number_in}
 use Rattle.std.proofs.lemmas.Result.{err_from_is_err_and}
+use Rattle.notices.proofs.Standing.{rows_stand}
 use Rattle.graph.proofs.update.Goals as goal
 
 pub returns-in_err-timetable : goal.returns-in_err-timetable
@@ -21,11 +22,11 @@ returns-in_err-timetable c =
     (open_refuses day areas (asks_of (connections c.args.file.now) c.args.call) (number_in c.args.call) (standing_after c.args.call) _ _
     (sym c.in_err-timetable.ensures.verdict))
 
-pub call_verdict-requires : goal.call_verdict-requires
-call_verdict-requires c =
+pub invariant_of-call_verdict : goal.invariant_of-call_verdict
+invariant_of-call_verdict c =
     let day : Day = day_of c.args.file.now in
     let areas : Areas = lent c.args.notices.now c.args.graph.now in
-    (connections c.args.file.now, (open_ready day areas (sym c.in_ok-timetable.ensures.verdict)).rows)
+    record { standing = rows_stand (connections c.args.file.now) c.args.notices.now (open_ready day areas (sym c.in_ok-timetable.ensures.verdict)).rows }
 
 pub returns-in_err-call_verdict : goal.returns-in_err-call_verdict
 returns-in_err-call_verdict c =

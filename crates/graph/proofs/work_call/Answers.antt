@@ -1,6 +1,5 @@
 -- `graph::work_call` meets its contract. Assumes nothing.
-use mathlib.Core.Path.{◌≡◌}
-use mathlib.Core.List.{List}
+use Rattle.std.proofs.Common.{◌≡◌, List}
 use Rattle.timetable.specs.File.{connections}
 use Rattle.refusals.specs.Answers.{Passed}
 use Rattle.model.specs.Notices.{rows_of, WellFormed}
@@ -22,11 +21,14 @@ pub fill_graph-requires : goal.fill_graph-requires
 fill_graph-requires c =
     let day : Day = day_of c.args.timetable.file.now in
     let areas : Areas = lent c.args.notices.now c.args.graph.now in
+    graph_room day areas c.requires.ready
+
+pub invariant_of-fill_graph : goal.invariant_of-fill_graph
+invariant_of-fill_graph c =
     let after : List Notice = standing_after c.args.call (rows_of c.args.notices.now) in
-    let passed : asked_verdict (rows_of c.args.notices.now) (asks_of (connections c.args.timetable.file.now) c.args.call) ≡ Passed = rw (← c.args.timetable.opened.connections) c.requires.call_value in
-    let formed : WellFormed (connections c.args.timetable.file.now) after = call_formed (connections c.args.timetable.file.now) (rows_of c.args.notices.now) c.args.call c.requires.ready.rows.rows passed in
-    let standing = written_standing (connections c.args.timetable.file.now) after _ _ c.note_call.ensures formed in
-    (standing.0, graph_room day areas c.requires.ready)
+    let n = c.args.timetable.connections in
+    let formed : WellFormed n after = call_formed n (rows_of c.args.notices.now) c.args.call (rw c.args.timetable.opened.connections c.requires.ready.rows.rows) c.requires.call_value in
+    record { standing = (written_standing n after _ _ c.note_call.ensures formed).0 }
 
 pub returns : goal.returns
 returns c =

@@ -1,8 +1,6 @@
 -- `imports::put_header` meets its contract: the letters, the counts, then the transfer times. Assumes nothing.
-use mathlib.Core.List.{[], ◌∷◌}
+use Rattle.std.proofs.Common.{[], ◌∷◌, length, arith}
 use native.Mathlib.Nat.{sub-zero}
-use native.Mathlib.Omega.{arith}
-use lib.ListN.{length}
 use Rattle.numbers.proofs.Areas.{length_numbers}
 use Rattle.timetable.specs.File.{header_length}
 use Rattle.timetable.specs.Check.{format_version}

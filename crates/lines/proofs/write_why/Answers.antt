@@ -1,5 +1,5 @@
 -- `lines::write_why` meets its contract: the connection, then the line of the delay and the notice. Assumes nothing.
-use native.Mathlib.Omega.{arith}
+use Rattle.std.proofs.Common.{arith}
 use Rattle.lines.specs.Lines.{why_line}
 use Rattle.decimals.proofs.Written.{then_written}
 use Rattle.labels.proofs.Texts.{line_written}

@@ -1,5 +1,5 @@
 -- `links::link_first` meets its contract. Assumes nothing.
-use native.Mathlib.Omega.{arith}
+use Rattle.std.proofs.Common.{arith}
 use Rattle.boards.proofs.Opened.{timed_by}
 use Rattle.links.proofs.Marks.{first_off, first_right}
 use Rattle.links.proofs.link_first.Goals as goal

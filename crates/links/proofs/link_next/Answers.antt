@@ -1,5 +1,5 @@
 -- `links::link_next` meets its contract. Assumes nothing.
-use native.Mathlib.Omega.{arith}
+use Rattle.std.proofs.Common.{arith}
 use Rattle.boards.proofs.Opened.{timed_by}
 use Rattle.links.proofs.Marks.{next_none, next_right}
 use Rattle.links.proofs.link_next.Goals as goal

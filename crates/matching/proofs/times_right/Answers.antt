@@ -1,5 +1,5 @@
 -- `matching::times_right` meets its contract: the times are compared with the expected ones. Assumes nothing.
-use mathlib.Core.Path.{◌∙◌}
+use Rattle.std.proofs.Common.{◌∙◌}
 use Rattle.model.proofs.GraphArea.{length_times}
 use Rattle.matching.proofs.Comparing.{front_same}
 use Rattle.matching.proofs.times_right.Goals as goal

@@ -1,11 +1,6 @@
 -- `numbers::read_area` meets its contract. The loop's invariant: the area is the one that came with the first i
 -- numbers of the bytes written over it. The measure is the numbers left. Assumes nothing.
-use mathlib.Core.Path.{◌≡◌, sym, ◌∙◌}
-use mathlib.Core.List.{List}
-use Prim.Native.Nat.{ℕ, ◌<◌}
-use native.Mathlib.Omega.{arith}
-use borrow.Author.Rules.{rules}
-use lib.ListN.{length, get_or, length-set}
+use Rattle.std.proofs.Common.{◌≡◌, ℕ, ◌<◌, List, length, get_or, sym, ◌∙◌, arith, length-set, rules}
 use Rattle.numbers.specs.Numbers.{numbers_of, over}
 use Rattle.numbers.proofs.Areas.{length_numbers, number_at_lem}
 use Rattle.numbers.proofs.Turns.{over_turn, over_done}

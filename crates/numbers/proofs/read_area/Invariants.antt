@@ -1,8 +1,6 @@
 -- `numbers::read_area` meets its contract. The loop's invariant: the area is the one that came with the first i
 -- numbers of the bytes written over it. The measure is the numbers left. Assumes nothing.
-use mathlib.Core.Path.{◌≡◌}
-use Prim.Native.Nat.{◌-◌, ◌≤◌}
-use lib.ListN.{length, take}
+use Rattle.std.proofs.Common.{◌≡◌, ◌-◌, ◌≤◌, length, take}
 use Rattle.numbers.specs.Numbers.{numbers_of, over}
 use Rattle.numbers.proofs.read_area.Given as goal
 

@@ -1,13 +1,8 @@
 -- `numbers::write_area` meets its contract. The loop's invariant: the bytes are those that came with the first i
 -- numbers of the area written over them. The measure is the numbers left. Assumes nothing.
-use mathlib.Core.Path.{◌∙◌}
-use native.Mathlib.Omega.{arith}
-use borrow.Author.Rules.{rules}
-use lib.ListN.{length-set}
+use Rattle.std.proofs.Common.{◌≡◌, ◌/◌, ◌%◌, get_or, ◌∙◌, arith, length-set, rules}
 use Rattle.numbers.specs.Numbers.{over_bytes}
 use Rattle.numbers.proofs.Turns.{bytes_turn, bytes_done}
-use Rattle.std.proofs.Common.{◌≡◌, ◌%◌, ◌/◌}
-use lib.ListN.{get_or}
 use Rattle.numbers.specs.Numbers.{byte_size}
 use Rattle.numbers.proofs.write_area.Goals as goal
 

@@ -1,8 +1,6 @@
 -- `numbers::write_area` meets its contract. The loop's invariant: the bytes are those that came with the first i
 -- numbers of the area written over them. The measure is the numbers left. Assumes nothing.
-use mathlib.Core.Path.{◌≡◌}
-use Prim.Native.Nat.{◌-◌, ◌≤◌}
-use lib.ListN.{length, take}
+use Rattle.std.proofs.Common.{◌≡◌, ◌-◌, ◌≤◌, length, take}
 use Rattle.numbers.specs.Numbers.{over_bytes}
 use Rattle.numbers.proofs.write_area.Given as goal
 

@@ -9,4 +9,4 @@ use Rattle.predecessors.proofs.sweep.Given as goal
 
 abbrev pub invariant-loop-d : goal.invariant-loop-d
 invariant-loop-d l =
-    (o : Ordered (departure_in l.network.shown.graph.now) (connections l.network.shown.timetable.file.now) (connections l.network.shown.timetable.file.now) l.order) × Swept (shown l.network.shown.timetable.file.now l.network.shown.graph.now) l.from l.time o.place l.d-index l.work
+    (o : Ordered (departure_in l.search.network.shown.graph.now) (connections l.search.network.shown.timetable.file.now) (connections l.search.network.shown.timetable.file.now) l.order) × Swept (shown l.search.network.shown.timetable.file.now l.search.network.shown.graph.now) l.search.from l.search.time o.place l.d-index l.work

@@ -1,7 +1,6 @@
 -- The numbers are looked at one by one.
-use mathlib.Core.Path.{refl, sym, ◌∙◌, ap}
-use mathlib.Core.Bool.{Bool, ◌&&◌, and-true}
-use native.Mathlib.Omega.{arith}
+use Rattle.std.proofs.Common.{Bool, ◌&&◌, sym, refl, ap, ◌∙◌, arith}
+use mathlib.Core.Bool.{and-true}
 use Rattle.rows.proofs.Zeros.{zero_on, zero_not, zero_end}
 use Rattle.rows.proofs.all_zero.Goals as goal
 use Rattle.rows.proofs.all_zero.Goals.{else-x-ne0, then-x-ne0}

@@ -1,8 +1,5 @@
 -- The numbers are looked at one by one.
-use mathlib.Core.Path.{◌≡◌}
-use mathlib.Core.Bool.{◌&&◌}
-use Prim.Native.Nat.{◌≤◌, ◌-◌}
-use lib.ListN.{length, drop, replicate}
+use Rattle.std.proofs.Common.{◌≡◌, ◌&&◌, length, drop, replicate}
 use Rattle.model.specs.Drawn.{same}
 use Rattle.rows.specs.Rows.{all_zero}
 use Rattle.rows.proofs.all_zero.Given as goal

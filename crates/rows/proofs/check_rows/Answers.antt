@@ -1,6 +1,5 @@
 -- The count, the rows that stand, the other rows.
-use mathlib.Core.Path.{sym, ◌∙◌}
-use borrow.Author.Tests.{lt-ltb, le-ltb}
+use Rattle.std.proofs.Common.{le-ltb, lt-ltb}
 use Rattle.model.specs.Notices.{rows_verdict}
 use Rattle.std.proofs.lemmas.Result.{err_from_is_err_and}
 use Rattle.rows.proofs.check_rows.Goals as goal

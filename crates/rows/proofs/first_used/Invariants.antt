@@ -1,6 +1,5 @@
 -- The other rows are checked one by one.
-use mathlib.Core.Path.{◌≡◌}
-use Prim.Native.Nat.{◌≤◌, ◌-◌}
+use Rattle.std.proofs.Common.{◌≡◌, ◌≤◌}
 use Rattle.model.specs.Notices.{room, unused_verdict}
 use Rattle.model.proofs.Rows.{unused_after}
 use Rattle.rows.proofs.Checking.{to_check}
@@ -8,4 +7,4 @@ use Rattle.rows.proofs.first_used.Given as goal
 
 abbrev pub invariant-loop-k : goal.invariant-loop-k
 invariant-loop-k l =
-    (l.k ≤ room) × (to_check unused_after l.notices room l.k 0 ≡ unused_verdict l.notices)
+    (l.k ≤ room) × (to_check unused_after l.counted.notices.now room l.k 0 ≡ unused_verdict l.counted.notices.now)

@@ -1,8 +1,5 @@
 -- `run_calls::work_all` meets its contract. Assumes nothing.
-use mathlib.Core.Path.{◌≡◌}
-use Prim.Native.Nat.{◌≤◌, ◌*◌}
-use native.Mathlib.Omega.{arith}
-use lib.ListN.{length}
+use Rattle.std.proofs.Common.{◌≡◌, ◌*◌, ◌≤◌, length, arith}
 use Rattle.refusals.specs.Answers.{told}
 use Rattle.model.specs.Day.{day_of, lent}
 use Rattle.run_calls.specs.Calls.{answer_width}

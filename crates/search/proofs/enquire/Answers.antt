@@ -1,5 +1,5 @@
 -- `search::enquire` meets its contract. Assumes nothing.
-use mathlib.Core.Path.{sym}
+use Rattle.std.proofs.Common.{sym}
 use Rattle.std.proofs.lemmas.Result.{err_from_is_err_and}
 use Rattle.search.proofs.Enquiries.{enquired_refused, answered_by}
 use Rattle.search.proofs.enquire.Goals as goal

@@ -1,6 +1,5 @@
 -- `search::find_journey` meets its contract. Assumes nothing.
-use mathlib.Core.Path.{◌∙◌}
-use native.Mathlib.Omega.{arith}
+use Rattle.std.proofs.Common.{◌∙◌, arith}
 use Rattle.search.proofs.Enquiries.{sortable, front, searched_read}
 use Rattle.search.proofs.find_journey.Goals as goal
 
@@ -17,10 +16,10 @@ fill_predecessors-requires c =
 pub read_journey-requires : goal.read_journey-requires
 read_journey-requires c =
     let a = c.args in
-    record { journey_room = c.requires.1; work_value = front a.network a.work.now a.from a.time _ c.fill_predecessors.ensures }
+    record { journey_room = c.requires.1; work_value = front a.network a.work.now a.request.from a.request.time _ c.fill_predecessors.ensures }
 
 pub returns : goal.returns
 returns c =
     let a = c.args in
     c.read_journey.ensures
-    ∙ searched_read a.network a.work.now a.from a.time _ c.fill_predecessors.ensures _ _
+    ∙ searched_read a.network a.work.now a.request.from a.request.time _ c.fill_predecessors.ensures _ _

@@ -1,5 +1,5 @@
 -- `stop_times::next_row` meets its contract: the columns one after the other, up to the first that cannot be read. Assumes nothing.
-use mathlib.Core.Path.{◌∙◌}
+use Rattle.std.proofs.Common.{◌∙◌}
 use Rattle.stop_times.proofs.Rows.{no_trip, no_arrival, no_departure, no_stop, no_sequence}
 use Rattle.stop_times.proofs.Rows.{trip_read, arrival_read, departure_read, stop_read, sequence_read}
 use Rattle.stop_times.proofs.next_row.Goals as goal

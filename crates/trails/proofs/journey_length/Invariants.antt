@@ -1,7 +1,5 @@
 -- `trails::journey_length` meets its contract. Assumes nothing.
-use mathlib.Core.Path.{◌≡◌}
-use Prim.Native.Nat.{◌+◌}
-use lib.ListN.{length}
+use Rattle.std.proofs.Common.{◌≡◌, ◌+◌, length}
 use Rattle.trails.specs.Trail.{journey_to, Trail}
 use Rattle.trails.proofs.journey_length.Given as goal
 

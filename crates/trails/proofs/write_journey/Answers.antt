@@ -1,7 +1,5 @@
 -- `trails::write_journey` meets its contract. Assumes nothing.
-use mathlib.Core.Path.{◌≡◌, refl, ◌∙◌, ap}
-use native.Mathlib.Omega.{arith}
-use lib.ListN.{length, drop, length-set}
+use Rattle.std.proofs.Common.{◌≡◌, length, drop, refl, ap, ◌∙◌, arith, length-set}
 use Rattle.model.specs.Predecessors.{follow}
 use Rattle.trails.specs.Trail.{journey_to}
 use Rattle.trails.proofs.Trail.{length_follow, follow_exact, step_on, write_step, write_done}

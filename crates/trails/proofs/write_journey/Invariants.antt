@@ -1,9 +1,7 @@
 -- `trails::write_journey` meets its contract. The loop's invariant: what is left to write, with what is written, is the whole journey.
 -- Assumes nothing.
-use mathlib.Core.Path.{◌≡◌}
+use Rattle.std.proofs.Common.{◌≡◌, ◌≤◌, length, drop}
 use mathlib.Core.List.{reverse_aux}
-use Prim.Native.Nat.{◌≤◌}
-use lib.ListN.{length, drop}
 use Rattle.model.specs.Predecessors.{follow}
 use Rattle.trails.specs.Trail.{Trail}
 use Rattle.trails.proofs.write_journey.Given as goal

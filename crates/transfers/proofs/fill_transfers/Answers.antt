@@ -14,12 +14,12 @@ loop-event-preserved-then-e-n c =
       left_is = next.1;
       departures = omega arith;
       swept = λ g w.
-          rw c.arrive.ensures
+          rw c.to-stop.ensures.value
           (swept_ready w (rw next.0 at (passed.swept g w)) (next_slot w _ (omega (arith, o.connections)) passed.left_is last) (omega (arith, o.connections)) (omega (arith, to_below o _ c.if-e-n.true)));
     }
 
-pub depart-requires-clause-c_lt_connections : goal.depart-requires-clause-c_lt_connections
-depart-requires-clause-c_lt_connections c =
+pub departure_board-board-requires : goal.departure_board-board-requires
+departure_board-board-requires c =
     let passed = c.loop-event.invariant in
     let last = c.in-Some.ensures.steps in
     let next = last_of_front c.args.order.now _ _ _ passed.left_is last in
@@ -38,7 +38,7 @@ loop-event-preserved-then-e c =
       departures = omega arith;
       swept = λ g w.
           let slot = next_slot w _ (omega (arith, o.connections)) passed.left_is last in
-          rw (c.depart.ensures.heads_after, c.depart.ensures.departed_after)
+          rw c.departure_board-board.ensures.value
           (swept_depart w (rw next.0 at (passed.swept g w)) slot _ (omega (arith, event_below w slot c.if-e.true, o.connections)) (omega (arith, o.connections)) (omega arith));
     }
 

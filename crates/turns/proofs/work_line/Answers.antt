@@ -1,5 +1,5 @@
 -- `turns::work_line` meets its contract: the command read, worked, and its reply written. Assumes nothing.
-use mathlib.Core.Path.{refl}
+use Rattle.std.proofs.Common.{refl}
 use Rattle.model.specs.Day.{day_of, lent}
 use Rattle.commands.specs.Commands.{command_of}
 use Rattle.turns.specs.Turns.{state, turn_of}

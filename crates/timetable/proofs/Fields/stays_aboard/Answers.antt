@@ -1,6 +1,5 @@
 -- `timetable::stays_aboard` meets its contract. Assumes nothing.
-use mathlib.Core.Path.{sym}
-use native.Mathlib.Omega.{arith}
+use Rattle.std.proofs.Common.{sym, arith}
 use Rattle.timetable.specs.File.{stays_aboard}
 use Rattle.timetable.proofs.Next.{stays_next}
 use Rattle.timetable.proofs.Fields.stays_aboard.Goals as goal
