@@ -1,6 +1,7 @@
 -- A timetable and a graph area whose times stand, and what readers of both ask. Assumes nothing.
 use Rattle.std.specs.Prelude.{List, [], ℕ, ◌+◌, ◌*◌, ◌<◌, ◌≤◌, length}
 use Rattle.timetable.specs.File.{to}
+use Rattle.timetable.specs.Room.{HasStop}
 use Rattle.timetable.specs.Accepted.{Opened}
 use Rattle.model.specs.Least.{none}
 use Rattle.model.specs.Network.{Sound}
@@ -21,3 +22,9 @@ board_in f c = board (shown f []) c
 -- when a passenger who arrives by connection c is ready to leave again
 abbrev pub ready_in : List ℕ → List ℕ → ℕ → ℕ
 ready_in f g c = ready (shown f g) c (to f c)
+
+-- which a file that holds the connection and a graph area tell
+pub record ReadyRoom (f : List ℕ) (g : List ℕ) (c : ℕ) : Type 0 where
+  pub stop : HasStop f (to f c)
+  pub room : 2 * c + 1 < length g
+  pub early : ready_in f g c < none

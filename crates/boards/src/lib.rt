@@ -8,17 +8,34 @@ ghost use Rattle.model.specs.Network.{Sound, last_expected};
 ghost use Rattle.model.specs.Graph.{departure_in, arrival_in, waiting_in, transfer_in, first_in};
 ghost use Rattle.model.specs.Drawn.{graph_length};
 ghost use Rattle.model.specs.Shown.{shown};
-ghost use Rattle.boards.specs.Timed.{board_in, ready_in};
+ghost use Rattle.boards.specs.Timed.{board_in, ready_in, ReadyRoom};
 
-use timetable::Timetable;
+use timetable::{Fields, Timetable};
 
 // The board on which the departure of connection c is listed: that of its stop.
+pub fn board(fields: Fields, c: usize) -> u16
+    requires { c < fields.connections }
+    ensures { result ≡ board_in fields.entry.file.now c }
+{
+    fields.from(c)
+}
+
+// The same, of an accepted timetable.
 pub fn departure_board(timetable: Timetable, c: usize) -> u16
     requires { c < timetable.connections }
     ensures value { result ≡ board_in timetable.entry.file.now c }
     ensures below { result < timetable.entry.stops }
 {
     timetable.from(c)
+}
+
+// When a passenger who arrives by connection c is ready to leave again.
+pub fn ready(fields: Fields, graph: &[u16], c: usize) -> u16
+    requires { (c < fields.connections) × ReadyRoom fields.file.now graph.now c }
+    ensures { result ≡ ready_in fields.entry.file.now graph.now c }
+{
+    let stop = fields.to(c) as usize;
+    entries::arrival(graph, c) + fields.transfer_time(stop)
 }
 
 // An accepted timetable and a graph area that has room for its graph and shows sound times.
@@ -65,8 +82,7 @@ impl Shown<'_> {
         ensures value { result ≡ ready_in self.entry.timetable.file.now self.entry.graph.now c }
         ensures early { result ≤ last_expected + max_transfer_time }
     {
-        let stop = self.timetable.to(c) as usize;
-        self.arrival(c) + self.timetable.transfer_time(stop)
+        ready(self.timetable.fields(), self.graph, c)
     }
 
     // The waiting entry of connection c.

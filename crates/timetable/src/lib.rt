@@ -152,7 +152,7 @@ impl Fields<'_> {
 // The same readers, by what is accepted: stops and transfer times have bounds.
 impl<'a> Timetable<'a> {
     // The fields of the file.
-    fn fields(self) -> Fields<'a>
+    pub fn fields(self) -> Fields<'a>
         ensures file { result.file.now ≡ self.entry.file.now }
         ensures counts { (result.stops ≡ self.entry.stops) × (result.connections ≡ self.entry.connections) }
     {
