@@ -41,7 +41,11 @@ fn primary_delay(counted: Counted, c: usize) -> PrimaryDelay
 pub fn why(file: &[u8], notices: &[u16], connection: u16) -> Result<PrimaryDelay, Refusal>
     ensures { told result ≡ explained file.now notices.now connection }
 {
-    let timetable = acceptance::open(file)?;
+    // no `?`: document 01 has the file check's answer opened by `let .. else`
+    let opened = acceptance::open(file);
+    let Ok(timetable) = opened else {
+        return Err(opened.unwrap_err());
+    };
     why_verdict(notices, timetable.connections, connection)?;
     Ok(primary_delay(Counted { notices }, connection as usize))
 }

@@ -4,7 +4,8 @@
 ghost use Rattle.std.specs.Prelude.{◌≡◌, IfOk};
 ghost use Rattle.refusals.specs.Answers.{verdict_of, Passed};
 ghost use Rattle.model.specs.Day.{day_of, lent};
-ghost use Rattle.model.specs.Parts.{room_verdict, contents_verdict, areas_verdict, open_verdict};
+ghost use Rattle.model.specs.Parts.{room_verdict, contents_verdict, areas_verdict, open_verdict, examined};
+ghost use Rattle.checks.specs.Examined.{told_counts};
 
 use model::Lent;
 use refusals::{Reason, Refusal};
@@ -56,9 +57,14 @@ fn areas_verdict(timetable: Timetable, areas: Lent) -> Result<(), Refusal>
 // An accepted timetable whose areas are right, or the first of refusals 1 to 11 and 21 to 24.
 pub fn examine<'a>(file: &'a [u8], areas: Lent) -> Result<Timetable<'a>, Refusal>
     ensures verdict { verdict_of result ≡ open_verdict (day_of file.now) (lent areas.entry.notices.now areas.entry.graph.now) }
+    ensures counts { told_counts result ≡ examined (day_of file.now) (lent areas.entry.notices.now areas.entry.graph.now) }
     ensures of_the_file { IfOk result (λ timetable. timetable.file.now ≡ file.now) }
 {
-    let timetable = acceptance::open(file)?;
+    // no `?`: document 01 has the file check's answer opened by `let .. else`
+    let opened = acceptance::open(file);
+    let Ok(timetable) = opened else {
+        return opened;
+    };
     areas_verdict(timetable, areas)?;
     Ok(timetable)
 }

@@ -1,5 +1,5 @@
 // The graph layer: it checks, builds and updates the graph and the notices. What the search needs of it, it offers here: the checks
-// of handed-in areas, the readers of the graph area's entries and the order of departures.
+// of handed-in areas, the readers of the graph area's entries, the order of departures and what a refusal is.
 #![tactic(auto)]
 
 ghost use Rattle.std.specs.Prelude.{◌≡◌, ℕ};
@@ -15,7 +15,6 @@ ghost use Rattle.calls.specs.Call.{asks_of, standing_after, called_by};
 use calls::Call;
 use model::{Lent, Notice};
 use notices::Posted;
-use refusals::Refusal;
 use times::Outlook;
 use timetable::Timetable;
 
@@ -30,8 +29,14 @@ pub use checks::{contents_verdict, examine, room_verdict};
 // What a timetable and a graph area show.
 pub use boards::Shown;
 
+// The entries of the graph area.
+pub use entries::{arrival, departure, transfer, waiting};
+
 // The connections in the order of departure.
 pub use departures::order_departures;
+
+// Why something is refused. What a refusal tells, specs/ passes on.
+pub use refusals::{Reason, Refusal};
 
 // What the search goes over: a timetable and a graph area that has the departure lists of the times that it shows.
 #[derive(Clone, Copy)]
@@ -57,7 +62,11 @@ fn update(file: &[u8], notices: &mut [u16], graph: &mut [u16], call: Call) -> Re
     ensures { outcome (told result) (lent notices.new graph.new)
         ≡ called_by (day_of file.now) (lent notices.old graph.old) call }
 {
-    let timetable = examine(file, Lent { notices, graph })?;
+    // no `?`: document 01 has the file check's answer opened by `let .. else`
+    let examined = examine(file, Lent { notices, graph });
+    let Ok(timetable) = examined else {
+        return Err(examined.unwrap_err());
+    };
     calls::call_verdict(Posted { notices }, timetable.connections, call)?;
     work_call(timetable, notices, graph, call);
     Ok(calls::number_of(call))

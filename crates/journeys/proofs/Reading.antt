@@ -1,8 +1,8 @@
 -- Reading a journey: what its steps ask and what they give together. Assumes nothing.
 use Rattle.std.proofs.Common.{◌≡◌, ℕ, ◌<◌, ◌≤◌, eqb, List, length, get_or, take, sym, ap, ◌∙◌, arith, eq-eqb, ne_eqb}
-use Rattle.refusals.specs.Answers.{accepted, refused}
+use Rattle.graph.specs.Answers.{accepted, refused}
 use Rattle.timetable.specs.Check.{max_connections}
-use Rattle.refusals.specs.RefusalNumber as refusal
+use Rattle.graph.specs.RefusalNumber as refusal
 use Rattle.model.specs.Least.{none}
 use Rattle.model.specs.Network.{Network}
 use Rattle.model.specs.Journeys.{arrives}

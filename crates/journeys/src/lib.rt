@@ -9,11 +9,10 @@ ghost use Rattle.model.specs.Operations.{enquiry};
 ghost use Rattle.model.specs.Shown.{shown};
 ghost use Rattle.journeys.specs.Last.{Better};
 ghost use Rattle.journeys.specs.Reading.{read_out};
-ghost use Rattle.refusals.specs.Answers.{told};
+ghost use Rattle.graph.specs.Answers.{told};
 
-use graph::Network;
+use graph::{Network, Reason, Refusal};
 use model::{Arrival, NONE, Request};
-use refusals::{Reason, Refusal};
 use timetable::Timetable;
 
 // Whether a journey ends with connection c and c arrives at a stop.

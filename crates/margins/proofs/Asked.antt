@@ -1,11 +1,11 @@
 -- What a margin asks of its own numbers: when each refusal is given, and what it tells where they pass.
 -- Assumes nothing.
 use Rattle.std.proofs.Common.{◌≡◌, ℕ, ◌<◌, not, ◌||◌, eqb, leb, List, [], sym, refl, ◌∙◌}
-use Rattle.refusals.specs.Answers.{refuse_if, Passed, Refused}
+use Rattle.graph.specs.Answers.{refuse_if, Passed, Refused}
 use Rattle.timetable.specs.File.{connections, from, to}
 use Rattle.timetable.proofs.Tests.{at_most, unequal, either}
 use Rattle.timetable.proofs.Order.{Rule, rule, pass, stop, passes}
-use Rattle.refusals.specs.RefusalNumber as refusal
+use Rattle.graph.specs.RefusalNumber as refusal
 use Rattle.model.specs.Parts.{asked_verdict, margin_asks}
 
 -- 13, then 17

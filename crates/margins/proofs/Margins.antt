@@ -1,6 +1,6 @@
 -- A margin by its parts. Assumes nothing.
 use Rattle.std.proofs.Common.{◌≡◌, ℕ, List, [], sym, refl, ◌∙◌, arith}
-use Rattle.refusals.specs.Answers.{Answer, accepted, refused, or_else, answering, Verdict, Passed, Refused}
+use Rattle.graph.specs.Answers.{Answer, accepted, refused, or_else, answering, Verdict, Passed, Refused}
 use Rattle.timetable.specs.File.{transfer_time, to}
 use lib.IntN.{ℤ}
 use Rattle.model.specs.Graph.{departure_in, arrival_in}

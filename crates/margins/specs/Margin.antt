@@ -1,6 +1,6 @@
 -- The answer of a margin. Assumes nothing.
 use Rattle.std.specs.Prelude.{◌≡◌, ℕ, ℤ}
-use Rattle.refusals.specs.Answers.{Answer, accepted}
+use Rattle.graph.specs.Answers.{Answer, accepted}
 use Rattle.model.specs.Day.{Day, Areas}
 use Rattle.model.specs.Margin.{MarginRange}
 use Rattle.model.specs.Operations.{margined}

@@ -2,16 +2,15 @@
 #![tactic(auto)]
 
 ghost use Rattle.std.specs.Prelude.{◌≡◌, [], ℕ, ◌<◌};
-ghost use Rattle.refusals.specs.Answers.{answering, told, verdict_of};
+ghost use Rattle.graph.specs.Answers.{answering, told, verdict_of};
 ghost use Rattle.model.specs.Margin.{margin_between, margin_of};
 ghost use Rattle.model.specs.Day.{day_of, lent};
 ghost use Rattle.model.specs.Parts.{asked_verdict, margin_asks};
 ghost use Rattle.model.specs.Shown.{shown};
 ghost use Rattle.margins.specs.Margin.{MarginAnswered};
 
-use graph::{Network, Shown};
+use graph::{Network, Reason, Refusal, Shown};
 use model::{Change, Lent};
-use refusals::{Reason, Refusal};
 use timetable::Timetable;
 
 // Refusals 13 and 17.
@@ -70,7 +69,11 @@ pub fn margin(file: &[u8], areas: Lent, change: Change) -> Result<i32, Refusal>
     ensures { MarginAnswered (day_of file.now) (lent areas.entry.notices.now areas.entry.graph.now) change.connection change.next
         (told result) }
 {
-    let timetable = graph::examine(file, areas)?;
+    // no `?`: document 01 has the file check's answer opened by `let .. else`
+    let examined = graph::examine(file, areas);
+    let Ok(timetable) = examined else {
+        return Err(examined.unwrap_err());
+    };
     let shown = Shown {
         timetable,
         graph: areas.graph,

@@ -1,10 +1,10 @@
 -- What an enquiry asks of its own numbers: when each refusal is given, and what it tells where they pass.
 -- Assumes nothing.
 use Rattle.std.proofs.Common.{◌≡◌, ℕ, ◌<◌, ◌≤◌, ◌||◌, ltb, leb, [], sym, refl, arith}
-use Rattle.refusals.specs.Answers.{refuse_if, Passed, Refused}
+use Rattle.graph.specs.Answers.{refuse_if, Passed, Refused}
 use Rattle.timetable.proofs.Tests.{below, at_most, either}
 use Rattle.timetable.proofs.Order.{Rule, rule, pass, stop}
-use Rattle.refusals.specs.RefusalNumber as refusal
+use Rattle.graph.specs.RefusalNumber as refusal
 use Rattle.model.specs.Network.{last_expected}
 use Rattle.model.specs.Parts.{asked_verdict, enquiry_asks}
 

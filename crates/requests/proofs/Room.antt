@@ -1,12 +1,12 @@
 -- The areas that an enquiry is lent: when each refusal is given, and what is known where they pass. Assumes nothing.
 use Rattle.std.proofs.Common.{◌≡◌, ℕ, ◌≤◌, List, length, sym, refl, ◌∙◌}
-use Rattle.refusals.specs.Answers.{or_else, Passed, Refused}
+use Rattle.graph.specs.Answers.{or_else, Passed, Refused}
 use Rattle.timetable.specs.File.{connections}
 use Rattle.timetable.specs.Accepted.{Timetable}
 use Rattle.timetable.proofs.Accepted.{accepted_iff}
 use Rattle.timetable.proofs.Tests.{below}
 use Rattle.timetable.proofs.Order.{else_passed, Rule, rule, pass, stop, passes}
-use Rattle.refusals.specs.RefusalNumber as refusal
+use Rattle.graph.specs.RefusalNumber as refusal
 use Rattle.model.specs.Day.{Day, Areas}
 use Rattle.model.specs.Parts.{needs, part_verdict, verdict, areas_room, enquiry_room, room_verdict}
 use Rattle.model.specs.Ready.{Ready}

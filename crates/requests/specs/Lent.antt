@@ -1,6 +1,6 @@
 -- The refusals over the areas that an enquiry is lent, in their order. Assumes nothing.
 use Rattle.std.specs.Prelude.{List, ◌++◌, ℕ}
-use Rattle.refusals.specs.Answers.{or_else, Verdict}
+use Rattle.graph.specs.Answers.{or_else, Verdict}
 use Rattle.model.specs.Day.{Day, Areas}
 use Rattle.model.specs.Parts.{verdict, areas_room, enquiry_room, contents_verdict}
 

@@ -2,13 +2,13 @@
 #![tactic(auto)]
 
 ghost use Rattle.std.specs.Prelude.{◌≡◌, []};
-ghost use Rattle.refusals.specs.Answers.{verdict_of};
+ghost use Rattle.graph.specs.Answers.{verdict_of};
 ghost use Rattle.model.specs.Day.{day_of, lent};
 ghost use Rattle.model.specs.Parts.{asked_verdict, enquiry_asks};
 ghost use Rattle.requests.specs.Lent.{room_for, lent_verdict};
 
+use graph::{Reason, Refusal};
 use model::{Lent, Request};
-use refusals::{Reason, Refusal};
 use timetable::Timetable;
 
 // Refusals 21, 22, 28 and 29.

@@ -1,6 +1,6 @@
 -- An enquiry by its parts. Assumes nothing.
 use Rattle.std.proofs.Common.{◌≡◌, ℕ, ◌*◌, ◌<◌, ◌≤◌, List, [], ◌++◌, length, take, drop, ap, ◌∙◌, arith, take_at}
-use Rattle.refusals.specs.Answers.{Answer, refused, or_else, Passed, Refused}
+use Rattle.graph.specs.Answers.{Answer, refused, or_else, Passed, Refused}
 use Rattle.timetable.specs.File.{stops, connections}
 use Rattle.timetable.specs.Check.{file_verdict, max_connections}
 use Rattle.timetable.specs.Accepted.{Timetable}

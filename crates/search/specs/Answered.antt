@@ -1,6 +1,6 @@
 -- What an enquiry promises: the answer and the areas afterwards, and what the answer means. Assumes nothing.
 use Rattle.std.specs.Prelude.{◌≡◌, List, ℕ}
-use Rattle.refusals.specs.Answers.{Answer}
+use Rattle.graph.specs.Answers.{Answer}
 use Rattle.model.specs.Day.{Day, Areas}
 use Rattle.model.specs.Drawn.{network_by}
 use Rattle.model.specs.Operations.{enquiry, enquired}

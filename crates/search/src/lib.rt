@@ -2,16 +2,15 @@
 #![tactic(auto)]
 
 ghost use Rattle.std.specs.Prelude.{◌≡◌, ℕ, ◌<◌, ◌≤◌, length};
-ghost use Rattle.refusals.specs.Answers.{told, Passed};
+ghost use Rattle.graph.specs.Answers.{told, Passed};
 ghost use Rattle.model.specs.Day.{day_of, lent};
 ghost use Rattle.model.specs.Operations.{enquiry, searched, enquired};
 ghost use Rattle.model.specs.Shown.{shown};
 ghost use Rattle.search.specs.Answered.{Answered};
 
-use graph::{Network, Shown};
+use graph::{Network, Refusal, Shown};
 use model::{Arrival, Lent, Request};
 use predecessors::Search;
-use refusals::Refusal;
 use timetable::Timetable;
 
 // The margin of a change.
@@ -77,6 +76,10 @@ pub fn enquire(
         work.old journey.old request.from request.to request.time
         (told result) work.new journey.new }
 {
-    let timetable = graph::open(file)?;
+    // no `?`: document 01 has the file check's answer opened by `let .. else`
+    let opened = graph::open(file);
+    let Ok(timetable) = opened else {
+        return Err(opened.unwrap_err());
+    };
     enquire_by(timetable, areas, work, journey, request)
 }
