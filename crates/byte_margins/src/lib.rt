@@ -19,6 +19,6 @@ pub fn margin_bytes(file: &[u8], notices: &[u8], graph: &[u8], change: Change) -
     // The library has no heap; each array is lent by itself, so that a struct of them would be no plainer.
     let mut n = [0u16; model::NOTICES_LENGTH];
     let mut g = [0u16; model::MOST_GRAPH];
-    let (notices, graph) = fronts::read_both(notices, graph, &mut n, &mut g);
+    let (notices, graph) = fronts::read_fronts(notices, graph, &mut n, &mut g);
     codes::code_margin(margins::margin(file, Lent { notices, graph }, change))
 }

@@ -22,7 +22,7 @@ use Rattle.model.specs.declared.Arrival.{Arrival}
 use Rattle.model.proofs.Fronts.{enquiry_behind, fronts, front_enquired}
 use Rattle.codes.specs.Encoded.{coded_arrival}
 use Rattle.model.specs.Drawn.{network_by, most_graph}
-use Rattle.fronts.specs.Fronts.{writes, lent_bytes, ReadBoth, WrittenBoth}
+use Rattle.fronts.specs.Fronts.{writes, lent_bytes, ReadFronts, WrittenBoth}
 use Rattle.fronts.proofs.Fronts.{graph_covers, connections_cover, Changed, both_front, first_whole, second_whole}
 use Rattle.written_enquiries.specs.Found.{is_searched, journey_length, FoundRoom}
 use Rattle.enquiries.specs.Enquired.{EnquiryBytes}
@@ -106,8 +106,8 @@ module _ (day : Day) (areas : Areas) (w j : List ℕ) (a b t : ℕ) where
         record { header = omega (arith, t.long); work_room = omega (arith, c.kept, rw s at l); journey_room = omega (arith, d.kept, d.within) }
 
 -- notices and graph read into n and g, predecessors and journey into w and j, and written back after an enquiry
-module _ {notices graph n g work journey w j : List ℕ} (read : ReadBoth notices_length most_graph notices graph n g)
-    (read' : ReadBoth max_connections max_connections work journey w j) (p : Bytes work) (q : Bytes journey) where
+module _ {notices graph n g work journey w j : List ℕ} (read : ReadFronts notices_length most_graph notices graph n g)
+    (read' : ReadFronts max_connections max_connections work journey w j) (p : Bytes work) (q : Bytes journey) where
   pub enquiry_written : (day : Day) (a b t : ℕ) {answer : Answer Arrival} {w' j' : List ℕ} → length w' ≡ length w → length j' ≡ length j
       → enquiry answer w' j' ≡ enquired day (lent n g) w j a b t → {work' journey' : List ℕ}
       → WrittenBoth (take (writes (is_searched answer) (connections day.file)) w') (take (journey_length answer) j') work journey work' journey'

@@ -28,8 +28,8 @@ pub fn enquire_bytes(
     let mut g = [0u16; model::MOST_GRAPH];
     let mut w = [0u16; timetable::MAX_CONNECTIONS];
     let mut j = [0u16; timetable::MAX_CONNECTIONS];
-    let (notices, graph) = fronts::read_both(notices, graph, &mut n, &mut g);
-    let (w, j) = fronts::read_both(work, journey, &mut w, &mut j);
+    let (notices, graph) = fronts::read_fronts(notices, graph, &mut n, &mut g);
+    let (w, j) = fronts::read_fronts(work, journey, &mut w, &mut j);
     let answer = search::enquire(file, Lent { notices, graph }, w, j, request);
     written_enquiries::write_found(file, w, j, work, journey, answer);
     codes::code(answer)

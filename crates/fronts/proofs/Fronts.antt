@@ -1,9 +1,9 @@
 -- Laws of the fronts of areas of bytes: what is read there, what is written back, and how many numbers cover what an accepted
 -- timetable needs. Assumes nothing.
-use Rattle.std.proofs.Common.{◌≡◌, ℕ, ◌≤◌, List, ◌++◌, length, take, drop, sym, ap, ◌∙◌, ap₂, arith, take-append-drop}
-use lib.Seq.{take-append-le, drop-append-le}
-use Rattle.numbers.specs.Numbers.{numbers_of, over_bytes}
-use Rattle.numbers.proofs.Areas.{Bytes, changed_written}
+use Rattle.std.proofs.Common.{◌≡◌, ℕ, ◌≤◌, ◌/◌, List, [], ◌∷◌, ◌++◌, length, take, drop, refl, sym, ap, ◌∙◌, ap₂, arith, take-append-drop}
+use lib.Seq.{take-append-le, drop-append-le, take-nil}
+use Rattle.numbers.specs.Numbers.{numbers_of, over, over_bytes}
+use Rattle.numbers.proofs.Areas.{Bytes, length_numbers, changed_written}
 use Rattle.timetable.specs.Check.{max_connections, file_verdict}
 use Rattle.timetable.specs.File.{connections}
 use Rattle.refusals.specs.Answers.{Passed}
@@ -11,7 +11,7 @@ use Rattle.timetable.proofs.Accepted.{accepted_iff}
 use Rattle.model.specs.Day.{lent}
 use Rattle.model.specs.Drawn.{graph_length, most_graph}
 use Rattle.model.proofs.Fronts.{Covers, fronts}
-use Rattle.fronts.specs.Fronts.{lent_bytes, ReadBoth}
+use Rattle.fronts.specs.Fronts.{lent_bytes, ReadFronts}
 
 -- the fronts are long enough for an accepted timetable
 pub graph_covers : (f area : List ℕ) → file_verdict f ≡ Passed → Covers most_graph (graph_length f) area
@@ -19,6 +19,16 @@ graph_covers f area h = let t = (accepted_iff f).0 h in omega (arith, t.few, t.f
 
 pub connections_cover : (f area : List ℕ) → file_verdict f ≡ Passed → Covers max_connections (connections f) area
 connections_cover f area h = let t = (accepted_iff f).0 h in omega (arith, t.few)
+
+-- what numbers have written over an area is their front
+over_part : (ns a : List ℕ) → take (length ns) (over ns a) ≡ take (length a) ns
+unfolding over
+over_part [] a = simp take-nil
+over_part (n ∷ ns) [] = refl
+over_part (n ∷ ns) (x ∷ a) = rw (over_part ns a)
+
+pub read_front : (bytes a : List ℕ) → take (length bytes / 2) (over (numbers_of bytes) a) ≡ take (length a) (numbers_of bytes)
+read_front bytes a = rw (← length_numbers bytes) (over_part (numbers_of bytes) a)
 
 -- of the numbers a, no more than the first i have changed
 pub record Changed (i : ℕ) (a a' : List ℕ) : Type 0 where
@@ -42,7 +52,7 @@ part_whole k i bytes a a' e c b =
     ap (λ (x : List ℕ). over_bytes x bytes) (sym (take-append-le i a' rest l)) ∙ changed_written i (a' ++ rest) bytes p b
 
 -- the fronts of both areas read into a and b
-module _ {k m : ℕ} {first second a b : List ℕ} (read : ReadBoth k m first second a b) where
+module _ {k m : ℕ} {first second a b : List ℕ} (read : ReadFronts k m first second a b) where
   pub both_front : lent a b ≡ fronts (lent_bytes first second) k m
   both_front = ap₂ lent read.first_read read.second_read
 

@@ -18,7 +18,7 @@ use Rattle.model.specs.Drawn.{graph_length, graph_for, standing, most_graph}
 use Rattle.model.proofs.Verdicts.{else_passed}
 use Rattle.model.proofs.Parts.{call_passed}
 use Rattle.model.proofs.Ready.{graph_long}
-use Rattle.fronts.specs.Fronts.{writes, lent_bytes, ReadBoth, WrittenBoth}
+use Rattle.fronts.specs.Fronts.{writes, lent_bytes, ReadFronts, WrittenBoth}
 use Rattle.fronts.proofs.Fronts.{graph_covers, Changed, both_front, first_whole, second_whole}
 use Rattle.coded_updates.specs.declared.Update.{Update}
 use Rattle.coded_updates.specs.declared.Update.TheVariants.{Build, Post, Withdraw}
@@ -97,15 +97,17 @@ module _ (day : Day) (areas areas' : Areas) (h : length areas'.notices ≡ lengt
 -- both areas worked on in n and g, of which n' and g' are left
 module _ {n g n' g' : List ℕ} (h : length n' ≡ length n) (h' : length g' ≡ length g) (day : Day) (u : Update) where
   -- an accepted update has a file with its header, and room for its graph
-  pub write_room : {code : ℕ} → UpdatedNumbers day (lent n g) u (Ok code) (lent n' g') → (header_length ≤ length day.file) × (graph_length day.file ≤ length g')
-  write_room e =
+  pub write_room : {r : Result ℕ ℕ} → UpdatedNumbers day (lent n g) u r (lent n' g') → is_ok r ≡ true
+      → (header_length ≤ length day.file) × (graph_length day.file ≤ length g')
+  write_room {r} e a =
       let c = update_changes day (lent n g) (lent n' g') h h' u e in
-      let t = (accepted_iff day.file).0 (c.file_passed refl) in
-      (omega (arith, t.long), omega (arith, c.graph_changed.kept, c.graph_changed.within))
+      let t = (accepted_iff day.file).0 (c.file_passed a) in
+      let l : writes (is_ok r) (graph_length day.file) ≤ length g = c.graph_changed.within in
+      (omega (arith, t.long), omega (arith, c.graph_changed.kept, rw a at l))
 
   -- read before, and written back
-  module _ {notices graph : List ℕ} (read : ReadBoth notices_length most_graph notices graph n g) (p : Bytes notices) (q : Bytes graph) where
-    update_written : {r : Result ℕ ℕ} → UpdatedNumbers day (lent n g) u r (lent n' g') → {notices' graph' : List ℕ}
+  module _ {notices graph : List ℕ} (read : ReadFronts notices_length most_graph notices graph n g) (p : Bytes notices) (q : Bytes graph) where
+    pub update_written : {r : Result ℕ ℕ} → UpdatedNumbers day (lent n g) u r (lent n' g') → {notices' graph' : List ℕ}
         → WrittenBoth (take (writes (is_ok r) (length n')) n') (take (writes (is_ok r) (graph_length day.file)) g') notices graph notices' graph'
         → OutcomeBytes (updated day (lent_bytes notices graph) u) notices graph (code_in r) notices' graph'
     update_written {r} e back =

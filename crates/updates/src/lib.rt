@@ -17,12 +17,12 @@ pub fn update_bytes(file: &[u8], notices: &mut [u8], graph: &mut [u8], update: U
     // The library has no heap; each array is lent by itself, so that a struct of them would be no plainer.
     let mut n = [0u16; model::NOTICES_LENGTH];
     let mut g = [0u16; model::MOST_GRAPH];
-    let (n, g) = fronts::read_both(notices, graph, &mut n, &mut g);
-    match coded_updates::update_numbers(file, n, g, update) {
-        Ok(code) => {
-            written_updates::write_back(file, n, g, notices, graph);
-            code
-        }
+    let (n, g) = fronts::read_fronts(notices, graph, &mut n, &mut g);
+    let worked = coded_updates::update_numbers(file, n, g, update);
+    let accepted = worked.is_ok();
+    written_updates::write_back(file, n, g, notices, graph, accepted);
+    match worked {
+        Ok(code) => code,
         Err(code) => code,
     }
 }

@@ -10,5 +10,5 @@ write_found-requires c =
 
 pub returns : goal.returns
 returns c =
-    enquiry_written c.read_both-notices.ensures c.read_both-w.ensures (search rules) (search rules) (day_of _) _ _ _
+    enquiry_written c.read_fronts-notices.ensures c.read_fronts-w.ensures (search rules) (search rules) (day_of _) _ _ _
     c.enquire-answer.auto.work c.enquire-answer.auto.journey c.enquire-answer.ensures.is c.write_found.ensures c.code.ensures
