@@ -1,5 +1,5 @@
 -- What a command line says. A line is the list of its bytes, its newline with it. Assumes nothing.
-use Rattle.std.specs.Prelude.{Bool, cond, Option, Some, None, option_and_then, ◌&&◌, ℕ, ◌-◌, leb, eqb, length, get_or, take}
+use Rattle.std.specs.Prelude.{Bool, cond, Option, Some, None, ◌&&◌, ℕ, ◌-◌, leb, eqb, length, get_or, take}
 use mathlib.Core.List.{List, [], ◌∷◌, map, foldl}
 use Rattle.decimals.specs.Bytes.{newline}
 use Rattle.decimals.specs.Decimal.{decimal}
@@ -20,7 +20,7 @@ gathered = foldl with_number (Some Zero)
 -- the command of a line's words: the first word and the numbers after it
 unfoldable pub meant : List (List ℕ) → Option Command
 meant [] = None
-meant (w ∷ ws) = option_and_then (asked w) (gathered (map decimal ws))
+meant (w ∷ ws) = asked w (gathered (map decimal ws))
 
 -- whether a line ends with a newline
 abbrev pub ended : List ℕ → Bool

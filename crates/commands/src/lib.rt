@@ -14,11 +14,12 @@ pub const MAX_LINE: usize = 64;
 fn read_words(text: &[u8]) -> Option<Command>
     ensures { result ≡ meant (words text.now) }
 {
-    let mut words = text.split(|byte| *byte == b' ');
-    let first = words.next()?;
-    let mut numbers = Numbers::Zero;
-    for word in words {
-        numbers = meanings::with_number(numbers, decimals::read_number(word)?)?;
+    let (first, mut rest) = cuts::first_piece(text, b' ');
+    let mut numbers = Some(Numbers::Zero);
+    while let Some(left) = rest {
+        let (word, more) = cuts::first_piece(left, b' ');
+        numbers = meanings::with_number(numbers, decimals::read_number(word));
+        rest = more;
     }
     meanings::asked(first, numbers)
 }

@@ -1,7 +1,8 @@
 -- A piece of a text, from a place to where it ends: at a byte, or with the text. Assumes nothing.
-use Rattle.std.proofs.Common.{◌≡◌, ℕ, suc, ◌+◌, ◌-◌, ◌<◌, ◌≤◌, true, false, List, length, take, drop, sym, ◌∙◌, arith, length-drop, drop-drop, le-ltb, lt-ltb}
+use Rattle.std.proofs.Common.{◌≡◌, ℕ, suc, ◌+◌, ◌-◌, ◌<◌, ◌≤◌, true, false, List, [], ◌∷◌, length, take, drop, sym, refl, ap, ◌∙◌, arith, length-drop, drop-drop, le-ltb, lt-ltb}
+use Rattle.std.proofs.lemmas.List.{take_all}
 use Rattle.cuts.specs.Cut.{has, before, after}
-use Rattle.cuts.proofs.Cut.{before_take, after_drop, before_within, has_end}
+use Rattle.cuts.proofs.Cut.{has_none, before_take, after_drop, before_within, has_end}
 
 module _ (byte : ℕ) (text : List ℕ) (at end : ℕ) (ends : end ≡ at + length (before byte (drop at text))) where
   -- what stands in it is what stands before the byte
@@ -24,3 +25,25 @@ module _ (byte : ℕ) (text : List ℕ) (at end : ℕ) (ends : end ≡ at + leng
 
   pub piece_within : at ≤ length text → end ≤ length text
   piece_within h = omega (arith, before_within byte (drop at text), length-drop at text)
+
+-- the first piece of a text, which the byte ends, and what stands after it
+module _ (byte : ℕ) (text : List ℕ) (end : ℕ) (ends : end ≡ length (before byte text)) where
+  pub first_taken : take end text ≡ before byte text
+  first_taken = rw ends (sym (before_take byte text))
+
+  pub first_after : take (length text - (end + 1)) (drop (end + 1) text) ≡ after byte text
+  first_after =
+      let e : end + 1 ≡ suc (length (before byte text)) = omega arith in
+      take_all (length text - (end + 1)) (drop (end + 1) text) (rw length-drop (omega arith)) ∙ rw e (sym (after_drop byte text))
+
+  pub first_cut : end < length text → has byte text ≡ true
+  first_cut h = has_end byte text ∙ lt-ltb _ (length text) (omega arith)
+
+-- the first piece of a text without the byte is the whole
+pub first_whole : (byte : ℕ) (text : List ℕ) → has byte text ≡ false → before byte text ≡ text
+unfolding has before
+first_whole byte [] h = refl
+first_whole byte (b ∷ bs) h = let n = has_none byte b bs h in rw n.0 (ap (◌∷◌ b) (first_whole byte bs n.1))
+
+-- what the first piece of a text goes by
+pub ruleset first = (first_taken, first_after, first_cut, first_whole)

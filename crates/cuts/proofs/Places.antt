@@ -1,5 +1,7 @@
 -- Where the piece of a text ends, and whether a text starts with another, in the words of the library. Assumes nothing.
-use Rattle.std.proofs.Common.{◌≡◌, ℕ, suc, ◌+◌, ◌<◌, ◌≤◌, eqb, List, [], ◌∷◌, length, get_or, drop, refl, add-one, drop_of_length-le, drop-cons, eq-eqb, ne_eqb}
+use Rattle.std.proofs.Common.{◌≡◌, ℕ, suc, ◌+◌, ◌<◌, ◌≤◌, false, eqb, List, [], ◌∷◌, length, get_or, take, drop, refl, add-one, drop_of_length-le, drop-cons, eq-eqb, ne_eqb, arith}
+use mathlib.Core.Bool.{and-false}
+use Rattle.std.proofs.lemmas.List.{take_all}
 use Rattle.std.specs.List as list
 use Rattle.cuts.specs.Cut.{before, starts_with}
 use Rattle.cuts.proofs.Pieces.{piece_last}
@@ -30,3 +32,17 @@ unfolding starts_with
 starts_same [] t = refl
 starts_same (b ∷ s) [] = refl
 starts_same (b ∷ s) (c ∷ t) = rw (starts_same s t)
+
+-- so it is by the other text cut at its length or further on
+pub starts_whole : (n : ℕ) (s t : List ℕ) → length s ≤ n → list.starts_with eqb t (take n s) ≡ starts_with s t
+starts_whole n s t h = rw (take_all n s h) (starts_same s t)
+
+-- no text starts with a longer one
+pub starts_longer : (s t : List ℕ) → length t < length s → starts_with s t ≡ false
+unfolding starts_with
+starts_longer [] t h = absurd (omega arith)
+starts_longer (b ∷ s) [] h = refl
+starts_longer (b ∷ s) (c ∷ t) h = rw (starts_longer s t (omega arith), and-false)
+
+-- what the test of a text's start goes by
+pub ruleset starts = (starts_same, starts_whole, starts_longer)

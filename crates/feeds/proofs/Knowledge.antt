@@ -37,13 +37,14 @@ found_at (Some n) = Refused refusal.wrong_text_row n
 
 -- what is known after a row tells of it
 pub record Tells (p : Progress) (row : StopTime) : Type 0 where
+  pub some : 0 < p.row
   pub began : p.trips ≡ suc row.trip
   pub stop : p.stop ≡ row.stop
   pub departure : p.departure ≡ row.departure
   pub sequence : p.sequence ≡ row.sequence
 
 pub tells : (p : Progress) (row : StopTime) → Tells (advanced p row) row
-tells p row = record { began = add-one row.trip; stop = refl; departure = refl; sequence = refl }
+tells p row = record { some = omega arith; began = add-one row.trip; stop = refl; departure = refl; sequence = refl }
 
 -- one row more
 pub row_more : (p : Progress) (row : StopTime) → (advanced p row).row ≡ suc p.row

@@ -1,5 +1,5 @@
 -- Two words compared, in the words of the library, and words that no command starts with. Assumes nothing.
-use Rattle.std.proofs.Common.{◌≡◌, ℕ, suc, ◌<◌, ◌≤◌, false, List, [], ◌∷◌, length, get_or, None, refl, ap, arith, ne_eqb}
+use Rattle.std.proofs.Common.{◌≡◌, ℕ, suc, ◌<◌, ◌≤◌, false, List, [], ◌∷◌, length, get_or, Some, None, refl, ap, arith, ne_eqb}
 use mathlib.Core.Bool.{and-false}
 use Rattle.std.specs.Str.{bytes_eq}
 use Rattle.model.specs.Drawn.{same}
@@ -24,7 +24,7 @@ other_length (a ∷ s) [] h = refl
 other_length (a ∷ s) (b ∷ t) h = rw (other_length s t (λ e. h (ap suc e)), and-false)
 
 -- a word of no command's length asks for nothing
-pub no_length : (word : List ℕ) (numbers : Numbers) → (length word ≡ 1 → ⊥) → (length word ≡ 3 → ⊥) → None ≡ asked word numbers
+pub no_length : (word : List ℕ) (numbers : Numbers) → (length word ≡ 1 → ⊥) → (length word ≡ 3 → ⊥) → None ≡ asked word (Some numbers)
 unfolding asked
 no_length word Zero h k = refl
 no_length word (One a) h k = rw (other_length word word_w h, other_length word word_why k)
@@ -33,7 +33,7 @@ no_length word (Three a b c) h k = rw (other_length word word_p h, other_length 
 
 -- neither does one of three letters that does not start with w
 pub no_three : (word : List ℕ) (numbers : Numbers) → 3 ≤ length word → length word < 4 → (get_or word 0 0 ≡ 119 → ⊥)
-    → None ≡ asked word numbers
+    → None ≡ asked word (Some numbers)
 unfolding asked same
 no_three [] numbers h k d = absurd (omega arith)
 no_three (x ∷ word) Zero h k d = refl

@@ -42,10 +42,11 @@ request a b t = record { from = a; to = b; time = t }
 abbrev pub change : ℕ → ℕ → Change
 change c d = record { connection = c; next = d }
 
--- the command of a first word and the numbers after it: w number; why connection; m connection connection;
+-- the command of a first word and the numbers after it, if there are numbers: w number; why connection; m connection connection;
 -- p number connection delay; q from to time
-unfoldable pub asked : List ℕ → Numbers → Option Command
-asked word Zero = None
-asked word (One a) = cond (same word word_w) (Some (Withdraw a)) (cond (same word word_why) (Some (Why a)) None)
-asked word (Two a b) = cond (same word word_m) (Some (Margin (change a b))) None
-asked word (Three a b c) = cond (same word word_p) (Some (Post (notice a b c))) (cond (same word word_q) (Some (Enquire (request a b c))) None)
+unfoldable pub asked : List ℕ → Option Numbers → Option Command
+asked word None = None
+asked word (Some Zero) = None
+asked word (Some (One a)) = cond (same word word_w) (Some (Withdraw a)) (cond (same word word_why) (Some (Why a)) None)
+asked word (Some (Two a b)) = cond (same word word_m) (Some (Margin (change a b))) None
+asked word (Some (Three a b c)) = cond (same word word_p) (Some (Post (notice a b c))) (cond (same word word_q) (Some (Enquire (request a b c))) None)

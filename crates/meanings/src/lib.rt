@@ -25,11 +25,12 @@ pub enum Numbers {
     Three(u16, u16, u16),
 }
 
-// Numbers and one more, if they are not three already.
-pub fn with_number(numbers: Numbers, number: u16) -> Option<Numbers>
-    ensures { result ≡ with_number (Some numbers) (Some number) }
+// Numbers and one more, if there are numbers and one more, and they are not three already.
+pub fn with_number(numbers: Option<Numbers>, number: Option<u16>) -> Option<Numbers>
+    ensures { result ≡ with_number numbers number }
 {
-    match numbers {
+    let number = number?;
+    match numbers? {
         Numbers::Zero => Some(Numbers::One(number)),
         Numbers::One(a) => Some(Numbers::Two(a, number)),
         Numbers::Two(a, b) => Some(Numbers::Three(a, b, number)),
@@ -37,12 +38,12 @@ pub fn with_number(numbers: Numbers, number: u16) -> Option<Numbers>
     }
 }
 
-// The command of a first word and the numbers after it.
+// The command of a first word and the numbers after it, if there are numbers.
 #[tactic(auto, using(crate::proofs::Comparison::words), unfolding(crate::specs::Meanings::asked, model::specs::Drawn::same))]
-pub fn asked(word: &[u8], numbers: Numbers) -> Option<Command>
+pub fn asked(word: &[u8], numbers: Option<Numbers>) -> Option<Command>
     ensures { result ≡ asked word.now numbers }
 {
-    match (word, numbers) {
+    match (word, numbers?) {
         (b"w", Numbers::One(a)) => Some(Command::Withdraw(a)),
         (b"why", Numbers::One(a)) => Some(Command::Why(a)),
         (b"m", Numbers::Two(connection, next)) => {

@@ -1,5 +1,5 @@
 -- An operation's result and the reply to it are the turn of its command. Assumes nothing.
-use Rattle.std.proofs.Common.{◌≡◌, ℕ, ◌≤◌, List, length, IsOkAnd, Ok, Err, Result, MatchResult, refl, ap, arith, length-append}
+use Rattle.std.proofs.Common.{◌≡◌, ℕ, ◌≤◌, List, length, IsOkAnd, IsErrAnd, Ok, Err, Result, MatchResult, refl, ap, arith, length-append}
 use lib.ListN.{length-reverse}
 use Rattle.refusals.specs.declared.Refusal.{Refusal}
 use Rattle.refusals.specs.Answers.{Answer, accepted, told}
@@ -28,6 +28,15 @@ pub made_by : {A : Type 0} {make : A → Reply} (r : Result A (Refusal ℕ)) (p 
 made_by (Ok v) (Ok reply) m same = same v reply m
 made_by (Ok v) (Err e) m same = absurd m
 made_by (Err e) p m same = m
+
+-- which stays so where a closure gives each refusal again
+pub told_again : {A : Type 0} (make : A → Reply) (r : Result A (Refusal ℕ)) (q p : Result Reply (Refusal ℕ)) {P : Refusal ℕ → Refusal ℕ → Type 0}
+    → Made make r q → MatchResult q (λ v. p ≡ Ok v) (λ e. IsErrAnd p (P e)) → ((e f : Refusal ℕ) → P e f → f ≡ e) → Made make r p
+told_again make (Ok v) (Ok w) p m h same = rw h m
+told_again make (Ok v) (Err e) p m h same = absurd m
+told_again make (Err e) (Ok w) p m h same = cc
+told_again make (Err e) (Err f) (Ok v) m h same = absurd h
+told_again make (Err e) (Err f) (Err g) m h same = let d : g ≡ f = same f g h in cc
 
 -- a result and the reply that is made of it
 performed : {A : Type 0} (make : A → Reply) (after : State) (r : Result A (Refusal ℕ)) (p : Result Reply (Refusal ℕ)) → Made make r p

@@ -59,6 +59,6 @@ pub fn write_built(built: Result<Counts, Refusal>, out: &mut [u8]) -> usize
 {
     match built {
         Ok(counts) => lines::write_counts(counts.stops, counts.connections, out),
-        Err(refused) => write_refusal(refused, out),
+        Err(refusal) => write_refusal(refusal, out),
     }
 }

@@ -3,7 +3,7 @@ use Rattle.std.proofs.Common.{rules}
 use Rattle.model.specs.Day.{day_of, lent}
 use Rattle.written_replies.specs.declared.Reply.TheVariants as R
 use Rattle.turns.specs.Turns.{state, turn_of}
-use Rattle.turns.proofs.Turns.{changing_performed, enquiring_performed, telling_performed, made_by}
+use Rattle.turns.proofs.Turns.{changing_performed, enquiring_performed, telling_performed, made_by, told_again}
 use Rattle.turns.proofs.perform.Goals as goal
 
 pub returns-in-Post : goal.returns-in-Post
@@ -25,14 +25,15 @@ unfolding turn_of
 returns-in-Enquire c =
     let a = c.args in
     let s = state (lent a.notices.now a.graph.now) a.work.now a.journey.now in
-    rw c.in-Enquire.is (enquiring_performed (day_of a.file.now) s _ _ _ _ _ c.enquire.ensures c.map-in-Enquire.ensures.cases)
+    let made = made_by _ _ c.map-in-Enquire.ensures.cases (λ v reply h. search rules) in
+    rw c.in-Enquire.is (enquiring_performed (day_of a.file.now) s _ _ _ _ _ c.enquire.ensures made)
 
 pub returns-in-Margin : goal.returns-in-Margin
 unfolding turn_of
 returns-in-Margin c =
     let a = c.args in
     let s = state (lent a.notices.now a.graph.now) a.work.now a.journey.now in
-    rw c.in-Margin.is (telling_performed s R.Margin _ _ c.margin.ensures.answer c.map-in-Margin.ensures.cases (λ z. tt))
+    rw c.in-Margin.is (telling_performed s R.Margin _ _ c.margin.ensures.answer (search (rules, told_again)) (λ z. tt))
 
 pub returns-in-Why : goal.returns-in-Why
 unfolding turn_of
