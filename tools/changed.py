@@ -1,6 +1,6 @@
 #!/usr/bin/env python3
-"""Lists what changed since a commit, old and new side by side: public functions with their clauses, ghost items of types, definitions of
-specs/ and statements of the laws in proofs/.
+"""Lists what changed since a commit, old and new side by side: public functions with their clauses and what is passed on by `pub use`,
+ghost items of types, public types with their derives, public constants, definitions of specs/ and statements of the laws in proofs/.
 
 changed.py COMMIT   in the form that docs/DESIGN-PASS.md ends with
 """
@@ -64,6 +64,9 @@ def items(files):
         if not name.endswith(".rt"):
             continue
         text = re.sub(r"//.*", "", raw)
+        for m in re.finditer(r"^pub use ([\w:]+)::(\{[^}]*\}|\w+);", text, re.M):
+            for word in re.findall(r"\w+", m.group(2)):
+                found.setdefault(f"{crate(name)}::{word}", []).append(f"pub use {m.group(1)}::{word}")
         owner = {}
         for m in re.finditer(r"^(?:pub )?(impl(?:<[^>]*>)? [^{]*|(?:pub )?(?:struct|enum|trait) [^{;(]*)\{", text, re.M):
             what = one_line(m.group(1))
@@ -91,6 +94,32 @@ def items(files):
     return found
 
 
+def kinds(files):
+    """Public types with their derives and fields, and public constants."""
+    found = {}
+    for name, raw in files.items():
+        if not name.endswith(".rt"):
+            continue
+        text = re.sub(r"//.*", "", raw)
+        for m in re.finditer(r"^( *)pub (?:const|type) (\w+)[^;]*;", text, re.M):
+            found.setdefault(f"{crate(name)}::{m.group(2)}", []).append(one_line(m.group(0)))
+        for m in re.finditer(r"^((?:#\[derive\([^)]*\)\]\n)?)pub (?:struct|enum|trait) (\w+)[^{;(]*([{;(])", text, re.M):
+            end = m.end() if m.group(3) == ";" else closing(text, m.end(), {"{": "{}", "(": "()"}[m.group(3)])
+            found.setdefault(f"{crate(name)}::{m.group(2)}", []).append(one_line(text[m.start() : end]))
+    return found
+
+
+def head_of(lines, last):
+    """The line that a declaration begins with whose head ends with such a line, the last of these."""
+    at = max(i for i, l in enumerate(lines) if l is last or l == last)
+    indent = len(lines[at]) - len(lines[at].lstrip())
+    while not re.match(r"\s*(?:abbrev |unfoldable )?(?:pub )?(?:record|data|module)\b", lines[at]) and at > 0:
+        at -= 1
+        while at > 0 and (not lines[at].strip() or len(lines[at]) - len(lines[at].lstrip()) > indent):
+            at -= 1
+    return lines[at]
+
+
 def blocks(files, folder):
     """Declarations of .antt files, by crate and name."""
     found = {}
@@ -104,7 +133,8 @@ def blocks(files, folder):
             indent = len(m.group(1))
             # a field of a record belongs to its record
             before = text[: m.start()].rstrip("\n").split("\n")
-            if indent and any(re.match(r"(?:pub )?(?:record|data) |.* where$", l) and not l.startswith("module") for l in [b for b in before if len(b) - len(b.lstrip()) < indent][-1:]):
+            around = [b for b in before if b.strip() and len(b) - len(b.lstrip()) < indent][-1:]
+            if indent and any(l.rstrip().endswith("where") and not re.match(r"\s*(?:pub )?module\b", head_of(before, l)) for l in around):
                 continue
             lines = text[m.start() :].split("\n")
             kept = [lines[0]]
@@ -142,5 +172,6 @@ def compare(title, old, new, gone, more):
 
 was, now = old_files(), new_files()
 compare("Public functions: signatures and clauses, and ghost items of types", items(was), items(now), "Public functions that are gone", "New ones")
+compare("Public types and constants", kinds(was), kinds(now), "Types and constants that are gone", "New ones")
 compare("Definitions of specs/", blocks(was, "specs"), blocks(now, "specs"), "Definitions that are gone", "New ones")
 compare("Laws of proofs/", blocks(was, "proofs"), blocks(now, "proofs"), "Laws that are gone", "New ones")
