@@ -1,5 +1,5 @@
 -- The words of a text, one after the other, and the numbers that they are. Assumes nothing.
-use Rattle.std.proofs.Common.{◌≡◌, ℕ, suc, ◌<◌, true, false, List, [], ◌∷◌, ◌++◌, map, length, Some, None, MatchOption, Option, ap, ◌∙◌, arith, length-append, Bor}
+use Rattle.std.proofs.Common.{◌≡◌, ℕ, suc, ◌<◌, true, false, List, [], ◌∷◌, ◌++◌, map, length, Some, None, MatchOption, Option, refl, ap, ◌∙◌, arith, length-append, Bor}
 use mathlib.Core.List.{foldl}
 use Rattle.decimals.specs.Bytes.{space}
 use Rattle.decimals.specs.Decimal.{decimal}
@@ -52,3 +52,18 @@ said_first text first ws e = rw e
 pub said_next : (first word : List ℕ) (ws more : List (List ℕ)) (numbers next : Option Numbers) → ws ≡ word ∷ more
     → next ≡ with_number numbers (decimal word) → said first numbers ws ≡ said first next more
 said_next first word ws more numbers next e h = rw (e, h)
+
+none_more : (o : Option ℕ) → with_number None o ≡ None
+none_more None = refl
+none_more (Some n) = refl
+
+none_stays : (ws : List (List ℕ)) → foldl with_number None (map decimal ws) ≡ None
+none_stays [] = refl
+none_stays (w ∷ ws) = ap (λ n. foldl with_number n (map decimal ws)) (none_more (decimal w)) ∙ none_stays ws
+
+-- the next word
+module _ (first word : List ℕ) (ws more : List (List ℕ)) (numbers : Numbers) (o : Option ℕ) (e : ws ≡ word ∷ more) (d : o ≡ decimal word) where
+  -- as no number, or one too many, whatever comes after it
+  pub said_none : with_number (Some numbers) o ≡ None → said first (Some numbers) ws ≡ None
+  unfolding asked
+  said_none h = rw (e, ← d) (ap (λ n. said first n more) h ∙ ap (asked first) (none_stays more))
