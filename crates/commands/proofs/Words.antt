@@ -53,6 +53,7 @@ pub said_next : (first word : List ℕ) (ws more : List (List ℕ)) (numbers nex
     → next ≡ with_number numbers (decimal word) → said first numbers ws ≡ said first next more
 said_next first word ws more numbers next e h = rw (e, h)
 
+-- where there are no numbers, no word after that makes any
 none_more : (o : Option ℕ) → with_number None o ≡ None
 none_more None = refl
 none_more (Some n) = refl
@@ -61,9 +62,8 @@ none_stays : (ws : List (List ℕ)) → foldl with_number None (map decimal ws) 
 none_stays [] = refl
 none_stays (w ∷ ws) = ap (λ n. foldl with_number n (map decimal ws)) (none_more (decimal w)) ∙ none_stays ws
 
--- the next word
+-- a next word that is no number, or one too many, says nothing, whatever comes after it
 module _ (first word : List ℕ) (ws more : List (List ℕ)) (numbers : Numbers) (o : Option ℕ) (e : ws ≡ word ∷ more) (d : o ≡ decimal word) where
-  -- as no number, or one too many, whatever comes after it
   pub said_none : with_number (Some numbers) o ≡ None → said first (Some numbers) ws ≡ None
   unfolding asked
   said_none h = rw (e, ← d) (ap (λ n. said first n more) h ∙ ap (asked first) (none_stays more))
